@@ -1,0 +1,5 @@
+pub mod Tokens
+pub mod Faults
+pub mod Bounds
+pub mod Shown
+pub mod Examples
