@@ -1,0 +1,4 @@
+pub mod Distinct
+pub mod Computed
+pub mod Entries
+pub mod Search

@@ -1,0 +1,5 @@
+pub mod Page
+pub mod Ascii
+pub mod Windows
+pub mod Table
+pub mod Examples

@@ -1,0 +1,4 @@
+pub mod Puts
+pub mod Buffer
+pub mod Pile
+pub mod Faults
