@@ -1,4 +1,6 @@
 // Taking apart at the edge of each refusal: where it is met, and where it just is not.
+#![tactic(auto)]
+
 #[cfg(test)]
 mod tests {
     use layers::Layer;

@@ -1,6 +1,8 @@
 // Puts the archive on standard input on a pile of cards, unloads the pile again, and takes apart what came back.
 //
 // The pile has just enough cards. An argument gives another number of them.
+#![tactic(auto)]
+
 use layers::Layer;
 use records::Records;
 use sinks::{CARD_SIZE, Card, CardSink, Sink, cards_for, put_all};

@@ -1,4 +1,6 @@
 // Groups: what stands between an opening brace and its closing one, and the stack of those still open.
+#![tactic(auto)]
+
 mod faults;
 mod stack;
 mod walk;

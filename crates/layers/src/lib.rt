@@ -1,4 +1,6 @@
 // The layers of the format: each fault belongs to one.
+#![tactic(auto)]
+
 ghost use Rattle.std.specs.Prelude.{◌≡◌};
 ghost use Rattle.layers.specs.Layers.{name_of};
 

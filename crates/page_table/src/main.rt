@@ -1,4 +1,6 @@
 // Tries the code pages against a list of mappings that another converter made: `tools/page_mappings` prints it.
+#![tactic(auto)]
+
 mod listed;
 mod trial;
 

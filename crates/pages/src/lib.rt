@@ -1,4 +1,6 @@
 // Code pages: which character a byte stands for, and which byte stands for a character.
+#![tactic(auto)]
+
 mod ascii;
 mod examples;
 mod page;

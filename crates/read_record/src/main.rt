@@ -1,4 +1,6 @@
 // Reads one record from standard input in code page 1252, and writes its content, or why it is refused.
+#![tactic(auto)]
+
 use pages::{CodePage, Windows1252};
 use reader::read;
 use records::RecordFault;

@@ -1,4 +1,6 @@
 // Tries the reading of records against a second reading, written another way, on records that are made up.
+#![tactic(auto)]
+
 mod answers;
 mod compose;
 mod fragments;

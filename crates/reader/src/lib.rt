@@ -1,4 +1,6 @@
 // Reading: from a record to exactly the kind and content that it encapsulates.
+#![tactic(auto)]
+
 mod assemble;
 mod guard;
 mod promises;

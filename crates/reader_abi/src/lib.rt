@@ -1,4 +1,6 @@
 // Reading in code page 1252, for callers in C and Rust.
+#![tactic(auto)]
+
 ghost use Rattle.std.specs.Prelude.{length};
 ghost use Rattle.pages.specs.Page.{char_of};
 ghost use Rattle.pages.specs.Windows.{chars1252};

@@ -1,4 +1,6 @@
 // The example that MS-OXRTFEX prints, as far as print tells its bytes.
+#![tactic(auto)]
+
 #[cfg(test)]
 mod tests {
     use pages::{CodePage, Windows1251};

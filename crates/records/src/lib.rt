@@ -1,4 +1,6 @@
 // Records: an archive taken apart into the records that it is made of.
+#![tactic(auto)]
+
 mod archive;
 mod archive_fault;
 mod examples;

@@ -1,4 +1,6 @@
 // Sinks: where the bytes that are written go. Each fills what it is lent, and allocates nothing.
+#![tactic(auto)]
+
 mod buffer;
 mod cards;
 mod faults;

@@ -1,4 +1,6 @@
 // The sinks on examples.
+#![tactic(auto)]
+
 #[cfg(test)]
 mod tests {
     use layers::Layer;

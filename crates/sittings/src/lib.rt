@@ -1,4 +1,6 @@
 // Sittings: writing calls one after the other, and what holds of every archive that comes of them.
+#![tactic(auto)]
+
 mod calls;
 mod examples;
 

@@ -1,4 +1,6 @@
 // Takes the archive on standard input apart, and prints a line for each record.
+#![tactic(auto)]
+
 use records::{ArchiveFault, Part, Records};
 use std::io;
 use std::io::{BufWriter, Read, Write};

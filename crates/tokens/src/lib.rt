@@ -1,4 +1,6 @@
 // Tokens: the smallest parts of a record, each told with its place in the given bytes.
+#![tactic(auto)]
+
 mod brace;
 mod examples;
 mod faults;

@@ -4,6 +4,8 @@
 // where they go. A buffer has S bytes; of cards there are just as many as S bytes take, so the last one may have some space more.
 // Then each line is a call: `open html`, `open text`, `markup HEX`, `text HEX`, `dress HEX` or `finish`. HEX is the piece, each
 // byte by two digits of lower-case hexadecimal.
+#![tactic(auto)]
+
 mod calls;
 mod hex;
 mod script;

@@ -1,4 +1,6 @@
 // Tries the writing of records against a second writing, written another way, on sittings that are made up.
+#![tactic(auto)]
+
 mod answers;
 mod decoration;
 mod fragments;

@@ -1,4 +1,6 @@
 // Writing: a record that encapsulates what was typed, call by call, into any sink.
+#![tactic(auto)]
+
 mod decoration;
 mod faults;
 mod header;
