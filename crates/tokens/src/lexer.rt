@@ -179,7 +179,7 @@ fn word_end<'a>(
 fn data_count(name: &[u8], number: Option<i32>) -> usize
     ensures { result ≡ data_count name.now number }
 {
-    if name != b"bin" {
+    if name != b"bin".as_slice() {
         return 0;
     }
     match number {

@@ -7,4 +7,4 @@ pub returns : goal.returns
 returns c =
     let inside : c.args.byte < length c.args.table.now = search rules in
     let is : c.from-2.result ≡ get_or c.args.table.now c.args.byte 0 = cc in
-    checked_entry _ c.from-2.result c.from-u32.ensures.value ∙ (ap entry_char is ∙ entry_at _ _ inside)
+    checked_entry _ c.from-2.result c.from_u32.ensures.value ∙ (ap entry_char is ∙ entry_at _ _ inside)

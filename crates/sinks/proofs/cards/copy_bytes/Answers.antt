@@ -13,11 +13,11 @@ next_fits c =
     let here : length c.bytes-bytes.result.now ≡ length (front (get_or cards i none)) = ap length c.bytes-bytes.ensures.value in
     omega (arith, joined_within cards i c.loop-card-test.true)
 
-pub overflow-add-end : goal.overflow-add-end
-overflow-add-end c = omega (arith, next_fits c)
+pub overflow_add-end : goal.overflow_add-end
+overflow_add-end c = omega (arith, next_fits c)
 
-pub slice-bounds-copy-from-slice-end : goal.slice-bounds-copy-from-slice-end
-slice-bounds-copy-from-slice-end c = omega (arith, next_fits c)
+pub slice_bounds-copy_from_slice-end : goal.slice_bounds-copy_from_slice-end
+slice_bounds-copy_from_slice-end c = omega (arith, next_fits c)
 
 pub loop-card-preserved : goal.loop-card-preserved
 loop-card-preserved c =
@@ -27,7 +27,7 @@ loop-card-preserved c =
     let value = c.bytes-bytes.ensures.value in
     let here : length c.bytes-bytes.result.now ≡ length (front (get_or cards i none)) = ap length value in
     let next = joined_next cards i c.loop-card-test.true in
-    (omega (arith, joined_length cards i c.loop-card-test.true), copied_more (flat_map front (take i cards)) (front (get_or cards i none)) c.copy-from-slice.new.self c.loop-card.out c.args.out.now c.loop-card.at _ (sym inv.0) (omega arith) (c.copy-from-slice.ensures.after ∙ value) inv.1 ∙ ap (λ l. l ++ drop (length l) c.args.out.now) (sym next))
+    (omega (arith, joined_length cards i c.loop-card-test.true), copied_more (flat_map front (take i cards)) (front (get_or cards i none)) c.copy_from_slice.new.self c.loop-card.out c.args.out.now c.loop-card.at _ (sym inv.0) (omega arith) (c.copy_from_slice.ensures.after ∙ value) inv.1 ∙ ap (λ l. l ++ drop (length l) c.args.out.now) (sym next))
 
 pub returns : goal.returns
 returns c =

@@ -6,7 +6,7 @@ pub loop-byte-preserved : goal.loop-byte-preserved
 loop-byte-preserved g c =
     let held = g.S.Sink.held c.args.sink.now in
     let inv = c.loop-byte.invariant in
-    let told = c.in-ok-put.ensures in
+    let told = c.in_ok-put.ensures in
     let bytes = c.args.bytes.now in
     let i = c.loop-byte.byte-index in
     (omega arith, inv.1, told.cases.1 ∙ ap (λ l. l ++ get_or bytes i 0 ∷ []) inv.2 ∙ append_assoc held _ _ ∙ ap (λ l. held ++ l) (sym (take_more bytes i 0 c.loop-byte-test.true)), omega arith, told.same ∙ inv.4)

@@ -14,15 +14,15 @@ returns-in-125 c = record { value = brace_closes c.args.bytes.now c.loop-at.at c
 
 pub returns-in-err-found : goal.returns-in-err-found
 returns-in-err-found c =
-    let p = err_from_is_err_and c.from-residual.result c.from-residual.ensures.1 in
+    let p = err_from_is_err_and c.from_residual.result c.from_residual.ensures.1 in
     rw (p.1, p.2) (record { value = word_bad c.args.bytes.now c.loop-at.at c.loop-at-test.true c.in-err-found.field-0.0 c.in-err-found.ensures.value ∙ c.loop-at.invariant.1; bound = tt })
 
 pub loop-at-preserved-in-92 : goal.loop-at-preserved-in-92
 loop-at-preserved-in-92 c =
     let bytes = c.args.bytes.now in
     let f = c.in-Some.found in
-    let fits = subst (λ o. FoundFits c.loop-at.at (length bytes) (Ok o)) c.in-Some.is c.in-ok-found.ensures.bound in
-    (omega (arith, fits.0, fits.1, c.loop-at.invariant.0), sym (past_word bytes c.loop-at.at c.loop-at-test.true c.in-92.is (shown f.token) f.place f.end (omega (arith, fits.0, fits.1)) (ap (λ o. shown_next (Ok o)) (sym c.in-Some.is) ∙ c.in-ok-found.ensures.value)) ∙ c.loop-at.invariant.1)
+    let fits = subst (λ o. FoundFits c.loop-at.at (length bytes) (Ok o)) c.in-Some.is c.in_ok-found-in-92.ensures.bound in
+    (omega (arith, fits.0, fits.1, c.loop-at.invariant.0), sym (past_word bytes c.loop-at.at c.loop-at-test.true c.in-92.is (shown f.token) f.place f.end (omega (arith, fits.0, fits.1)) (ap (λ o. shown_next (Ok o)) (sym c.in-Some.is) ∙ c.in_ok-found-in-92.ensures.value)) ∙ c.loop-at.invariant.1)
 
 pub loop-at-preserved : goal.loop-at-preserved
 loop-at-preserved c = (omega (arith, c.loop-at.invariant.0), sym (past_text c.args.bytes.now c.loop-at.at c.loop-at-test.true (λ e. omega arith) (λ e. omega arith) (λ e. omega arith)) ∙ c.loop-at.invariant.1)
@@ -30,5 +30,5 @@ loop-at-preserved c = (omega (arith, c.loop-at.invariant.0), sym (past_text c.ar
 pub returns-after-loop-at : goal.returns-after-loop-at
 returns-after-loop-at c = record { value = sym (at_drop_all (λ bs. from_brace (items 0 c.loop-at.at bs)) c.args.bytes.now c.loop-at.at c.loop-at-test.false) ∙ c.loop-at.invariant.1; bound = tt }
 
-pub returns-in-default-2 : goal.returns-in-default-2
-returns-in-default-2 c = record { value = word_none c.args.bytes.now c.loop-at.at c.loop-at-test.true (ap (λ o. shown_next (Ok o)) (sym c.in-default-2.is) ∙ c.in-ok-found.ensures.value) ∙ c.loop-at.invariant.1; bound = tt }
+pub returns-in_default-2 : goal.returns-in_default-2
+returns-in_default-2 c = record { value = word_none c.args.bytes.now c.loop-at.at c.loop-at-test.true (ap (λ o. shown_next (Ok o)) (sym c.in_default-2.is) ∙ c.in-ok-found.ensures.value) ∙ c.loop-at.invariant.1; bound = tt }

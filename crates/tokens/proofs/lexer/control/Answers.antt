@@ -8,9 +8,9 @@ returns-then-from-bytes c =
     let e = control_none c.args.bytes.now (c.args.place + 1) c.if-from-bytes.true in
     record { value = sym (ap (λ f. next_by c.args.place f None) e); bound = refl }
 
-pub returns-then-is-ascii-alphabetic : goal.returns-then-is-ascii-alphabetic
-returns-then-is-ascii-alphabetic c =
-    let e = control_word c.args.bytes.now (c.args.place + 1) c.if-from-bytes.false (sym c.if-is-ascii-alphabetic.ensures.value) in
+pub returns-then-is_ascii_alphabetic : goal.returns-then-is_ascii_alphabetic
+returns-then-is_ascii_alphabetic c =
+    let e = control_word c.args.bytes.now (c.args.place + 1) c.if-from-bytes.false (sym c.if-is_ascii_alphabetic.ensures.value) in
     record { value = c.word.ensures.value ∙ sym (ap (λ f. next_by c.args.place f None) e); bound = c.word.ensures.bound }
 
 pub returns-then-b-eq39 : goal.returns-then-b-eq39
@@ -23,6 +23,6 @@ returns-then-b-eq39 c =
 
 pub returns : goal.returns
 returns c =
-    let e = control_symbol c.args.bytes.now (c.args.place + 1) c.if-from-bytes.false (sym c.if-is-ascii-alphabetic.ensures.value) c.if-b-eq39.false in
+    let e = control_symbol c.args.bytes.now (c.args.place + 1) c.if-from-bytes.false (sym c.if-is_ascii_alphabetic.ensures.value) c.if-b-eq39.false in
     let two : c.args.place + 1 + 1 ≡ c.args.place + 2 = omega arith in
     record { value = ap (λ k. Some (good (symbol (get_or c.args.bytes.now (c.args.place + 1) 0)) c.args.place k)) two ∙ sym (ap (λ f. next_by c.args.place f None) e); bound = (refl, omega arith, omega arith) }

@@ -40,9 +40,9 @@ returns-in-Some c =
     let e = above_0 c.in-Some.count (simp to_z-of_z at taken) in
     simp to_z-of_z (e ∙ ap above (sym c.in-Some.is) ∙ sym (decided (goal.at.returns-in-Some c).After-ne c.if-ne.false))
 
-pub returns-in-default : goal.returns-in-default
-returns-in-default c =
+pub returns-in_default : goal.returns-in_default
+returns-in_default c =
     let fits : SFits w32 c.in-Some.count = search rules in
     let left = c.if-count-gt0.false in
     let e = not_above c.in-Some.count (simp to_z-of_z at left) in
-    e ∙ ap above (sym c.in-Some.is) ∙ sym (decided (goal.at.returns-in-default c).After-ne c.if-ne.false)
+    e ∙ ap above (sym c.in-Some.is) ∙ sym (decided (goal.at.returns-in_default c).After-ne c.if-ne.false)

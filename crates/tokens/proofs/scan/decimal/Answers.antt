@@ -5,16 +5,16 @@ use Rattle.std.proofs.lemmas.List.{take_all}
 use Rattle.tokens.proofs.Runs.{digits_at, digits_take, digit_from_value, value_few}
 use Rattle.tokens.proofs.scan.decimal.Goals as goal
 
-pub overflow-mul-n : goal.overflow-mul-n
-overflow-mul-n c =
+pub overflow_mul-n : goal.overflow_mul-n
+overflow_mul-n c =
     let small : length (take c.loop-d.d-index c.args.digits.now) ≤ 10 = simp length-take (omega arith) in
     omega (arith, value_few (take c.loop-d.d-index c.args.digits.now) (digits_take _ c.loop-d.d-index c.requires.digits) small)
 
-pub overflow-sub-n : goal.overflow-sub-n
-overflow-sub-n c = (digit_from_value (get_or c.args.digits.now c.loop-d.d-index 0) (digits_at c.args.digits.now c.loop-d.d-index c.requires.digits c.loop-d-test.true)).0
+pub overflow_sub-n : goal.overflow_sub-n
+overflow_sub-n c = (digit_from_value (get_or c.args.digits.now c.loop-d.d-index 0) (digits_at c.args.digits.now c.loop-d.d-index c.requires.digits c.loop-d-test.true)).0
 
-pub overflow-add-n : goal.overflow-add-n
-overflow-add-n c =
+pub overflow_add-n : goal.overflow_add-n
+overflow_add-n c =
     let small : length (take c.loop-d.d-index c.args.digits.now) ≤ 10 = simp length-take (omega arith) in
     let d = digit_from_value (get_or c.args.digits.now c.loop-d.d-index 0) (digits_at c.args.digits.now c.loop-d.d-index c.requires.digits c.loop-d-test.true) in
     omega (arith, value_few (take c.loop-d.d-index c.args.digits.now) (digits_take _ c.loop-d.d-index c.requires.digits) small)

@@ -9,5 +9,5 @@ returns c =
     let before = c.fill.new.self in
     let size = length c.args.out.now in
     let wiped : before ≡ zeros size = search rules in
-    let copied = c.copy-bytes.ensures ∙ ap (λ l. flat_map front l ++ drop (length (flat_map front l)) before) c.begun.ensures in
-    record { cases = (c.count-count.ensures, over_zeros (loaded c.args.self.now) c.copy-bytes.new.out before size c.count-count.result c.count-count.ensures wiped copied) }
+    let copied = c.copy_bytes.ensures ∙ ap (λ l. flat_map front l ++ drop (length (flat_map front l)) before) c.begun.ensures in
+    record { cases = (c.count-count.ensures, over_zeros (loaded c.args.self.now) c.copy_bytes.new.out before size c.count-count.result c.count-count.ensures wiped copied) }

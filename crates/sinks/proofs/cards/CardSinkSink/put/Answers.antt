@@ -5,8 +5,8 @@ use Rattle.sinks.proofs.cards.CardSinkSink.put.Goals as goal
 pub returns-then-self : goal.returns-then-self
 returns-then-self c = record { same = refl; cases = (room_none _ _ c.if-self.true, refl, refl); len = refl; tidy = λ t. t }
 
-pub returns-then-count-lt-CARD-SIZE : goal.returns-then-count-lt-CARD-SIZE
-returns-then-count-lt-CARD-SIZE c =
+pub returns-then-count-lt-CARD_SIZE : goal.returns-then-count-lt-CARD_SIZE
+returns-then-count-lt-CARD_SIZE c =
     let at = c.args.self.now.at in
     let cards = c.args.self.now.cards.now in
     let card = c.add.new.self in
