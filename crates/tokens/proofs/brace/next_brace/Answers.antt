@@ -12,10 +12,10 @@ returns-in-123 c = record { value = brace_opens c.args.bytes.now c.loop-at.at c.
 pub returns-in-125 : goal.returns-in-125
 returns-in-125 c = record { value = brace_closes c.args.bytes.now c.loop-at.at c.loop-at-test.true c.in-125.is ∙ c.loop-at.invariant.1; bound = (c.loop-at.invariant.0, c.loop-at-test.true) }
 
-pub returns-in-err-found : goal.returns-in-err-found
-returns-in-err-found c =
+pub returns-in_err-found-in-92 : goal.returns-in_err-found-in-92
+returns-in_err-found-in-92 c =
     let p = err_from_is_err_and c.from_residual.result c.from_residual.ensures.1 in
-    rw (p.1, p.2) (record { value = word_bad c.args.bytes.now c.loop-at.at c.loop-at-test.true c.in-err-found.field-0.0 c.in-err-found.ensures.value ∙ c.loop-at.invariant.1; bound = tt })
+    rw (p.1, p.2) (record { value = word_bad c.args.bytes.now c.loop-at.at c.loop-at-test.true c.in_err-found-in-92.field-0.0 c.in_err-found-in-92.ensures.value ∙ c.loop-at.invariant.1; bound = tt })
 
 pub loop-at-preserved-in-92 : goal.loop-at-preserved-in-92
 loop-at-preserved-in-92 c =
@@ -31,4 +31,4 @@ pub returns-after-loop-at : goal.returns-after-loop-at
 returns-after-loop-at c = record { value = sym (at_drop_all (λ bs. from_brace (items 0 c.loop-at.at bs)) c.args.bytes.now c.loop-at.at c.loop-at-test.false) ∙ c.loop-at.invariant.1; bound = tt }
 
 pub returns-in_default-2 : goal.returns-in_default-2
-returns-in_default-2 c = record { value = word_none c.args.bytes.now c.loop-at.at c.loop-at-test.true (ap (λ o. shown_next (Ok o)) (sym c.in_default-2.is) ∙ c.in-ok-found.ensures.value) ∙ c.loop-at.invariant.1; bound = tt }
+returns-in_default-2 c = record { value = word_none c.args.bytes.now c.loop-at.at c.loop-at-test.true (ap (λ o. shown_next (Ok o)) (sym c.in_default-2.is) ∙ c.in_ok-found-in-92.ensures.value) ∙ c.loop-at.invariant.1; bound = tt }
