@@ -44,7 +44,7 @@ impl<'a, E: Opening + Copy> Stack<'a, E> {
     pub fn push(&mut self, entry: E) -> Result<(), GroupFault>
         ensures same { self.new.entries.ghost_name ≡ self.old.entries.ghost_name }
         ensures room { length self.new.entries.now ≡ length self.old.entries.now }
-        ensures cases { Pushed opens entry (length self.old.entries.now) (held self.old.depth self.old.entries.now) result (held self.new.depth self.new.entries.now) }
+        ensures cases { Pushed E.opens entry (length self.old.entries.now) (held self.old.depth self.old.entries.now) result (held self.new.depth self.new.entries.now) }
     {
         let room = MAX_OPEN.min(self.entries.len());
         if self.depth >= room {

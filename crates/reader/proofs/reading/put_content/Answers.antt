@@ -13,10 +13,10 @@ use Rattle.reader.proofs.reading.put_content.Goals as goal
 pub loop-placed-preserved : goal.loop-placed-preserved
 loop-placed-preserved g c =
     let inv = c.loop-placed.invariant in
-    let joined = c.in-ok-joined.joined in
+    let joined = c.in_ok-joined.joined in
     let placed = c.in-Some.placed in
     let decoded = g.P.CodePage.decoded c.args.page.now in
-    let made : shown_joined (Ok joined) ≡ make decoded c.loop-placed.waiting (shown_effect placed.effect) placed.place = ap shown_joined (sym c.in-ok-joined.was) ∙ c.join.ensures in
+    let made : shown_joined (Ok joined) ≡ make decoded c.loop-placed.waiting (shown_effect placed.effect) placed.place = ap shown_joined (sym c.in_ok-joined.was) ∙ c.join.ensures in
     record {
       done = inv.done ++ characters_of joined.piece;
       held = rw (encodes-append inv.done (characters_of joined.piece)) (c.put-piece.ensures.value _ inv.held);
@@ -29,13 +29,13 @@ loop-placed-preserved g c =
 pub loop-placed-preserved-then-is-none : goal.loop-placed-preserved-then-is-none
 loop-placed-preserved-then-is-none g c =
     let inv = c.loop-placed.invariant in
-    let joined = c.in-ok-joined.joined in
+    let joined = c.in_ok-joined.joined in
     let placed = c.in-Some.placed in
     let page = c.args.page.now in
     let decoded = g.P.CodePage.decoded page in
     let text = c.text.result.now in
     let done = inv.done ++ characters_of joined.piece in
-    let made : shown_joined (Ok joined) ≡ make decoded c.loop-placed.waiting (shown_effect placed.effect) placed.place = ap shown_joined (sym c.in-ok-joined.was) ∙ c.join.ensures in
+    let made : shown_joined (Ok joined) ≡ make decoded c.loop-placed.waiting (shown_effect placed.effect) placed.place = ap shown_joined (sym c.in_ok-joined.was) ∙ c.join.ensures in
     let held : Holds (encodes done) c.put-piece.new.result = rw (encodes-append inv.done (characters_of joined.piece)) (c.put-piece.ensures.value _ inv.held) in
     let low = c.text.ensures.ascii in
     record {

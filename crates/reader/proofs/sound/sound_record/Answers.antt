@@ -6,18 +6,18 @@ use Rattle.reader.proofs.sound.sound_record.Goals as goal
 pub returns-then-bytes-gt-MAX-BYTES : goal.returns-then-bytes-gt-MAX-BYTES
 returns-then-bytes-gt-MAX-BYTES c = sym (sound_long c.args.bytes.now c.if-bytes-gt-MAX-BYTES.true)
 
-pub returns-in-err-record : goal.returns-in-err-record
-returns-in-err-record c =
-    let p = err_from_is_err_and c.from-residual.result c.from-residual.ensures.1 in
-    rw (p.1, p.2) (sym (sound_refused c.args.bytes.now c.if-bytes-gt-MAX-BYTES.false c.in-err-record.field-0.0 c.in-err-record.ensures.value))
+pub returns-in_err-record : goal.returns-in_err-record
+returns-in_err-record c =
+    let p = err_from_is_err_and c.from_residual.result c.from_residual.ensures.1 in
+    rw (p.1, p.2) (sym (sound_refused c.args.bytes.now c.if-bytes-gt-MAX-BYTES.false c.in_err-record.field-0.0 c.in_err-record.ensures.value))
 
-pub returns-in-err-check-trailing : goal.returns-in-err-check-trailing
-returns-in-err-check-trailing c =
-    let p = err_from_is_err_and c.from-residual-in-err-check-trailing.result c.from-residual-in-err-check-trailing.ensures.1 in
-    let parts = c.in-ok-record.ensures.value in
-    rw (p.1, p.2) (sym (sound_first c.args.bytes.now c.if-bytes-gt-MAX-BYTES.false c.in-ok-record.rest.place _ parts.end c.in-err-check-trailing.ensures))
+pub returns-in_err-check-trailing : goal.returns-in_err-check-trailing
+returns-in_err-check-trailing c =
+    let p = err_from_is_err_and c.from_residual-in_err-check-trailing.result c.from_residual-in_err-check-trailing.ensures.1 in
+    let parts = c.in_ok-record.ensures.value in
+    rw (p.1, p.2) (sym (sound_first c.args.bytes.now c.if-bytes-gt-MAX-BYTES.false c.in_ok-record.rest.place _ parts.end c.in_err-check-trailing.ensures))
 
 pub returns : goal.returns
 returns c =
-    let parts = c.in-ok-record.ensures.value in
-    ap Ok parts.front ∙ sym (sound_first c.args.bytes.now c.if-bytes-gt-MAX-BYTES.false c.in-ok-record.rest.place _ parts.end c.in-ok-check-trailing.ensures)
+    let parts = c.in_ok-record.ensures.value in
+    ap Ok parts.front ∙ sym (sound_first c.args.bytes.now c.if-bytes-gt-MAX-BYTES.false c.in_ok-record.rest.place _ parts.end c.in_ok-check-trailing.ensures)

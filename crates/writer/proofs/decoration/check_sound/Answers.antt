@@ -15,7 +15,7 @@ use Rattle.writer.proofs.decoration.check_sound.Goals.{In-Some}
 
 -- the token that was found lies after the place where the walk stood
 within : (c : In-Some) → (c.loop-found.at ≤ c.in-Some.found.place) × (c.in-Some.found.place < c.in-Some.found.end) × (c.in-Some.found.end ≤ length c.args.bytes.now)
-within c = subst (λ o. IfSome o (λ f. (c.loop-found.at ≤ f.place) × (f.place < f.end) × (f.end ≤ length c.args.bytes.now))) c.in-Some.is c.in-ok-found.ensures.bound
+within c = subst (λ o. IfSome o (λ f. (c.loop-found.at ≤ f.place) × (f.place < f.end) × (f.end ≤ length c.args.bytes.now))) c.in-Some.is c.in_ok-found.ensures.bound
 
 -- the groups open before the token
 abbrev stood : In-Some → List ℕ
@@ -33,26 +33,26 @@ step : (c : In-Some) (t : Token) → c.in-Some.found.token ≡ t → after c (sh
 step c t e =
     ap (λ k. after c (shown k)) (sym e)
     ∙ sound_good c.args.bytes.now c.loop-found.at _ _ c.loop-found.invariant.2 (shown c.in-Some.found.token) c.in-Some.found.place c.in-Some.found.end (omega (arith, (within c).0, (within c).1))
-    (subst (λ o. Lexed c.args.bytes.now (Ok o) (next c.loop-found.at (drop c.loop-found.at c.args.bytes.now))) c.in-Some.is c.in-ok-found.ensures.value)
+    (subst (λ o. Lexed c.args.bytes.now (Ok o) (next c.loop-found.at (drop c.loop-found.at c.args.bytes.now))) c.in-Some.is c.in_ok-found.ensures.value)
 
-pub returns-in-err-found : goal.returns-in-err-found
-returns-in-err-found c =
-    let p = err_from_is_err_and c.from-residual.result c.from-residual.ensures.1 in
-    let told = c.in-err-found.ensures.value in
+pub returns-in_err-found : goal.returns-in_err-found
+returns-in_err-found c =
+    let p = err_from_is_err_and c.from_residual.result c.from_residual.ensures.1 in
+    let told = c.in_err-found.ensures.value in
     rw (p.1, p.2) (told.2 ∙ sound_bad c.args.bytes.now c.loop-found.at _ _ c.loop-found.invariant.2 told.0 told.1)
 
 pub loop-found-preserved-in-Continue·-branch-3 : goal.loop-found-preserved-in-Continue·-branch-3
 loop-found-preserved-in-Continue·-branch-3 c =
     let here = (goal.at.loop-found-preserved-in-Continue·-branch-3 c).In-Some in
-    let pushed = c.in-ok-push.ensures.cases in
+    let pushed = c.in_ok-push.ensures.cases in
     let deeper = passed_open c.in-Some.found.place (stood here) (rest here) (omega (arith, pushed.0, c.loop-found.invariant.1)) in
     ((within here).2, c.push.ensures.room ∙ c.loop-found.invariant.1, ap (rest here) pushed.1 ∙ sym deeper ∙ step here _ c.in-Open.is)
 
-pub returns-in-err-push : goal.returns-in-err-push
-returns-in-err-push c =
-    let here = (goal.at.returns-in-err-push c).In-Some in
-    let p = err_from_is_err_and c.from-residual-in-err-push.result c.from-residual-in-err-push.ensures.1 in
-    let pushed = c.in-err-push.ensures.cases in
+pub returns-in_err-push : goal.returns-in_err-push
+returns-in_err-push c =
+    let here = (goal.at.returns-in_err-push c).In-Some in
+    let p = err_from_is_err_and c.from_residual-in_err-push.result c.from_residual-in_err-push.ensures.1 in
+    let pushed = c.in_err-push.ensures.cases in
     let deep = passed_deep c.in-Some.found.place (stood here) (rest here) (omega (arith, pushed.0, c.loop-found.invariant.1)) in
     rw (p.1, p.2) (ap (λ f. Err (Group f)) pushed.1 ∙ sym deep ∙ step here _ c.in-Open.is)
 
@@ -94,10 +94,10 @@ pub returns-in-Some-top : goal.returns-in-Some-top
 returns-in-Some-top c =
     let gs = held c.loop-found.stack.depth c.loop-found.stack.entries.now in
     ap Err c.from-in-Some-top.ensures ∙ end_some c.args.bytes.now gs c.in-Some-top.place c.in-Some-top.ensures
-    ∙ ended c.args.bytes.now c.loop-found.at gs c.in-ok-found.field-0 c.in-default.is c.in-ok-found.ensures.value c.loop-found.invariant.2
+    ∙ ended c.args.bytes.now c.loop-found.at gs c.in_ok-found.field-0 c.in-default.is c.in_ok-found.ensures.value c.loop-found.invariant.2
 
 pub returns-in-None : goal.returns-in-None
 returns-in-None c =
     let gs = held c.loop-found.stack.depth c.loop-found.stack.entries.now in
     end_none c.args.bytes.now gs c.in-None.ensures
-    ∙ ended c.args.bytes.now c.loop-found.at gs c.in-ok-found.field-0 c.in-default.is c.in-ok-found.ensures.value c.loop-found.invariant.2
+    ∙ ended c.args.bytes.now c.loop-found.at gs c.in_ok-found.field-0 c.in-default.is c.in_ok-found.ensures.value c.loop-found.invariant.2
