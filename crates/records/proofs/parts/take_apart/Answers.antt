@@ -10,7 +10,7 @@ returns c =
     let bytes = c.args.bytes.now in
     let end = c.in_ok-end.end in
     let all : end - 0 ≡ end = omega arith in
-    let ends : first_end bytes ≡ Ok end = cond-true _ _ _ (sym c.if-not-is-rtf.ensures) ∙ ap passed_up (sym c.in_ok-end.ensures.value) in
+    let ends : first_end bytes ≡ Ok end = cond-true _ _ _ (sym c.if-not-is_rtf.ensures) ∙ ap passed_up (sym c.in_ok-end.ensures.value) in
     let front : take (end - 0) bytes ≡ take end bytes = ap (λ k. take k bytes) all in
     record {
       value = record { end = ends; start = refl; front = front; back = take_rest bytes end };

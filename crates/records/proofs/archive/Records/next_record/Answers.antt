@@ -22,10 +22,10 @@ returns-then-self c =
 refused_rest : (c : In-Err) → first_end (drop c.args.self.now.at c.args.self.now.archive.now) ≡ Err c.in-Err.fault
 refused_rest c = ap first_end (sym (take_rest c.args.self.now.archive.now c.args.self.now.at)) ∙ c.in-Err.ensures.value
 
-pub overflow-add-place : goal.overflow-add-place
-overflow-add-place c =
+pub overflow_add-place : goal.overflow_add-place
+overflow_add-place c =
     let s = c.args.self.now in
-    let within : place_of c.in-Err.fault ≤ length s.archive.now - s.at = rw (length-drop s.at s.archive.now) at (fault_within (drop s.at s.archive.now) c.in-Err.fault (refused_rest (goal.at.overflow-add-place c).In-Err)) in
+    let within : place_of c.in-Err.fault ≤ length s.archive.now - s.at = rw (length-drop s.at s.archive.now) at (fault_within (drop s.at s.archive.now) c.in-Err.fault (refused_rest (goal.at.overflow_add-place c).In-Err)) in
     omega (arith, c.place.ensures, c.if-at-self.false)
 
 pub returns-in-Ok : goal.returns-in-Ok
