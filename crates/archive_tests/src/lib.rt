@@ -218,11 +218,11 @@ mod tests {
         let mut records = Records::new(archive.as_bytes());
         let first = records.next_record().ok_or("no first record")?;
         assert!(rt;
-            matches!(first, Ok(record) if record.place == 0 && record.bytes == b"{\\rtf1{a}}")
+            matches!(first, Ok(record) if record.place == 0 && record.bytes == b"{\\rtf1{a}}".as_slice())
         );
         let second = records.next_record().ok_or("no second record")?;
         assert!(rt;
-            matches!(second, Ok(record) if record.place == 10 && record.bytes == b"{\\rtf1 b}")
+            matches!(second, Ok(record) if record.place == 10 && record.bytes == b"{\\rtf1 b}".as_slice())
         );
         let third = records.next_record().ok_or("no refusal")?;
         assert!(rt;

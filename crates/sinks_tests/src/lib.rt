@@ -129,7 +129,7 @@ mod tests {
         let mut sink = BufferSink::new(&mut buffer);
         put_many(&mut sink, 3)?;
         let written = sink.into_written();
-        assert!(rt; written == [0, 1, 2]);
+        assert!(rt; written == [0, 1, 2].as_slice());
         Ok(())
     }
 
