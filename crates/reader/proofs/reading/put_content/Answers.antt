@@ -19,15 +19,15 @@ loop-placed-preserved g c =
     let made : shown_joined (Ok joined) ≡ make decoded c.loop-placed.waiting (shown_effect placed.effect) placed.place = ap shown_joined (sym c.in_ok-joined.was) ∙ c.join.ensures in
     record {
       done = inv.done ++ characters_of joined.piece;
-      held = rw (encodes-append inv.done (characters_of joined.piece)) (c.put-piece.ensures.value _ inv.held);
+      held = rw (encodes-append inv.done (characters_of joined.piece)) (c.put_piece.ensures.value _ inv.held);
       on = sym (made_more decoded inv.done c.loop-placed.waiting (shown_effect placed.effect, placed.place) _ _ c.in-Some.ensures joined made) ∙ inv.on;
-      same = c.put-piece.ensures.same ∙ inv.same;
-      len = c.put-piece.ensures.len ∙ inv.len;
-      accepted = c.put-piece.ensures.accepted ∙ inv.accepted;
+      same = c.put_piece.ensures.same ∙ inv.same;
+      len = c.put_piece.ensures.len ∙ inv.len;
+      accepted = c.put_piece.ensures.accepted ∙ inv.accepted;
     }
 
-pub loop-placed-preserved-then-is-none : goal.loop-placed-preserved-then-is-none
-loop-placed-preserved-then-is-none g c =
+pub loop-placed-preserved-then-is_none : goal.loop-placed-preserved-then-is_none
+loop-placed-preserved-then-is_none g c =
     let inv = c.loop-placed.invariant in
     let joined = c.in_ok-joined.joined in
     let placed = c.in-Some.placed in
@@ -36,19 +36,19 @@ loop-placed-preserved-then-is-none g c =
     let text = c.text.result.now in
     let done = inv.done ++ characters_of joined.piece in
     let made : shown_joined (Ok joined) ≡ make decoded c.loop-placed.waiting (shown_effect placed.effect) placed.place = ap shown_joined (sym c.in_ok-joined.was) ∙ c.join.ensures in
-    let held : Holds (encodes done) c.put-piece.new.result = rw (encodes-append inv.done (characters_of joined.piece)) (c.put-piece.ensures.value _ inv.held) in
+    let held : Holds (encodes done) c.put_piece.new.res = rw (encodes-append inv.done (characters_of joined.piece)) (c.put_piece.ensures.value _ inv.held) in
     let low = c.text.ensures.ascii in
     record {
       done = done ++ text;
       held = rw (encodes-append done text, encodes-IsAscii text (IsAscii-from_all text low)) (c.push.ensures.value _ held);
       on =
-          sym (text_more decoded (g.met.P.CodePage.ascii page) done joined.waiting c.next-effect.new.self.at text _ _ (none_waits joined.waiting c.if-is-none.ensures) low c.text.ensures.value)
+          sym (text_more decoded (g.met.P.CodePage.ascii page) done joined.waiting c.next_effect.new.self.at text _ _ (none_waits joined.waiting c.if-is_none.ensures) low c.text.ensures.value)
           ∙ sym (made_more decoded inv.done c.loop-placed.waiting (shown_effect placed.effect, placed.place) _ _ c.in-Some.ensures joined made) ∙ inv.on;
-      same = c.push.ensures.same ∙ c.put-piece.ensures.same ∙ inv.same;
-      len = c.push.ensures.len ∙ c.put-piece.ensures.len ∙ inv.len;
-      accepted = c.push.ensures.accepted ∙ c.put-piece.ensures.accepted ∙ inv.accepted;
+      same = c.push.ensures.same ∙ c.put_piece.ensures.same ∙ inv.same;
+      len = c.push.ensures.len ∙ c.put_piece.ensures.len ∙ inv.len;
+      accepted = c.push.ensures.accepted ∙ c.put_piece.ensures.accepted ∙ inv.accepted;
     }
 
-pub loop-placed-smaller-then-is-none : goal.loop-placed-smaller-then-is-none
-loop-placed-smaller-then-is-none g c =
-    omega (arith, text_less c.next-effect.new.self.at c.text.result.now _ _ c.text.ensures.value, ap length c.in-Some.ensures)
+pub loop-placed-smaller-then-is_none : goal.loop-placed-smaller-then-is_none
+loop-placed-smaller-then-is_none g c =
+    omega (arith, text_less c.next_effect.new.self.at c.text.result.now _ _ c.text.ensures.value, ap length c.in-Some.ensures)

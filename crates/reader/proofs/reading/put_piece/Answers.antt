@@ -8,8 +8,8 @@ use Rattle.reader.proofs.reading.put_piece.Goals as goal
 
 pub returns-in-Text : goal.returns-in-Text
 returns-in-Text c =
-    let told = c.as-bytes-in-Text.ensures in
-    let same : encodes (characters_of c.args.piece) ≡ c.as-bytes-in-Text.result.now = ap (λ p. encodes (characters_of p)) c.in-Text.is ∙ ap (λ b. encodes (chars b)) (sym told.value) ∙ encodes-chars _ told.utf8 in
+    let told = c.as_bytes-in-Text.ensures in
+    let same : encodes (characters_of c.args.piece) ≡ c.as_bytes-in-Text.result.now = ap (λ p. encodes (characters_of p)) c.in-Text.is ∙ ap (λ b. encodes (chars b)) (sym told.value) ∙ encodes-chars _ told.utf8 in
     record {
       value = λ content held. rw (same) (c.push-in-Text.ensures.value content held);
       same = c.push-in-Text.ensures.same;

@@ -24,7 +24,7 @@ pub returns-in-Some-declares : goal.returns-in-Some-declares
 returns-in-Some-declares c = by (goal.at.returns-in-Some-declares c).After-declares _ (c.in-Some-declares.is ∙ ap Some c.if-same.false)
 
 pub loop-left-preserved : goal.loop-left-preserved
-loop-left-preserved c = by (goal.at.loop-left-preserved c).After-declares _ c.in-default-declares.is
+loop-left-preserved c = by (goal.at.loop-left-preserved c).After-declares _ c.in_default-declares.is
 
-pub returns-in-default : goal.returns-in-default
-returns-in-default c = sym (ended_page c.args.bytes.now c.loop-left.at c.args.page c.loop-left.left c.in-default.ensures.value) ∙ c.loop-left.invariant
+pub returns-in_default : goal.returns-in_default
+returns-in_default c = sym (ended_page c.args.bytes.now c.loop-left.at c.args.page c.loop-left.left c.in_default.ensures.value) ∙ c.loop-left.invariant

@@ -36,4 +36,4 @@ loop-found-preserved c =
     (omega arith, sym (pass_on c.loop-found.left c.in-Some.found.place (later here) c.if-left-le1.false) ∙ by here _ c.in-Pass.ensures)
 
 pub returns : goal.returns
-returns c = sym (ended_mark c.args.bytes.now c.loop-found.at c.loop-found.left c.in-default.ensures.value) ∙ c.loop-found.invariant.1
+returns c = sym (ended_mark c.args.bytes.now c.loop-found.at c.loop-found.left c.in_default.ensures.value) ∙ c.loop-found.invariant.1

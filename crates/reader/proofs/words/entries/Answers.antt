@@ -30,8 +30,8 @@ returns-in-9 c = ap (λ n. of_length n words) (sym c.in-9.is)
 pub returns-in-10 : goal.returns-in-10
 returns-in-10 c = ap (λ n. of_length n words) (sym c.in-10.is)
 
-pub returns-in-default : goal.returns-in-default
-returns-in-default c =
+pub returns-in_default : goal.returns-in_default
+returns-in_default c =
     let n = c.args.length in
     let e1 : eqb 1 n ≡ false = ne_eqb 1 n (λ e. omega arith) in
     let e2 : eqb 2 n ≡ false = ne_eqb 2 n (λ e. omega arith) in

@@ -19,9 +19,9 @@ returns-then-self c = record {
 pub returns : goal.returns
 returns c =
     let g = c.args.self.now in
-    let same = put_whole g.len g.bytes.now c.args.piece.now c.copy-from-slice.new.self c.if-at-room.false c.if-piece-room.false c.copy-from-slice.ensures.after in
+    let same = put_whole g.len g.bytes.now c.args.piece.now c.copy_from_slice.new.self c.if-at-room.false c.if-piece-room.false c.copy_from_slice.ensures.after in
     record {
-      value = λ content held. holds_fit content c.args.piece.now g _ held c.if-self.false refl refl (omega (arith, held.len c.if-self.false, c.if-at-room.false, c.if-piece-room.false)) same (pushed_zeros content c.args.piece.now _ _ _ _ (held.len c.if-self.false) (omega arith) c.copy-from-slice.ensures.after (held.bytes c.if-self.false));
+      value = λ content held. holds_fit content c.args.piece.now g _ held c.if-self.false refl refl (omega (arith, held.len c.if-self.false, c.if-at-room.false, c.if-piece-room.false)) same (pushed_zeros content c.args.piece.now _ _ _ _ (held.len c.if-self.false) (omega arith) c.copy_from_slice.ensures.after (held.bytes c.if-self.false));
       same = refl;
       len = same;
       accepted = refl;

@@ -35,13 +35,13 @@ returns-in-Close c =
       same = refl;
     }
 
-pub returns-in-default : goal.returns-in-default
-returns-in-default c =
-    let here = (goal.at.returns-in-default c).Start in
+pub returns-in_default : goal.returns-in_default
+returns-in_default c =
+    let here = (goal.at.returns-in_default c).Start in
     let s = c.args.self.now in
     let t = c.args.found.token in
     record {
-      value = found here ∙ step_other (most s) s.kind t c.args.found.place (tag_next (later here)) (states s) s.skip (λ rs n. effects (most s) s.kind rs n (later here)) c.in-default.not-Open c.in-default.not-Close ∙ sym (c.other.ensures.value c.args.found.place);
+      value = found here ∙ step_other (most s) s.kind t c.args.found.place (tag_next (later here)) (states s) s.skip (λ rs n. effects (most s) s.kind rs n (later here)) c.in_default.not-Open c.in_default.not-Close ∙ sym (c.other.ensures.value c.args.found.place);
       on = omega (arith, c.other.ensures.on);
       same = c.other.ensures.same;
     }

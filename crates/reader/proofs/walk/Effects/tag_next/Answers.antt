@@ -7,15 +7,15 @@ use Rattle.reader.specs.Words.{is_htmltag}
 use Rattle.reader.proofs.Walks.{ended_tag, tag_good}
 use Rattle.reader.proofs.walk.Effects.tag_next.Goals as goal
 
-pub returns-then-not-is-star : goal.returns-then-not-is-star
-returns-then-not-is-star c = sym (and_left _ _ (sym c.if-not-is-star.ensures))
+pub returns-then-not-is_star : goal.returns-then-not-is_star
+returns-then-not-is_star c = sym (and_left _ _ (sym c.if-not-is_star.ensures))
 
 pub returns-in-Some : goal.returns-in-Some
 returns-in-Some c =
     let s = c.args.self.now in
     let f = c.in-Some.found in
     let fits = c.in-Some.ensures.bound in
-    c.is-htmltag.ensures ∙ ap is_htmltag c.means.ensures ∙ sym (ap (λ b. b && tag_next (rest s)) (sym c.if-not-is-star.ensures) ∙ tag_good s.bytes.now s.at (shown f.token) f.place f.end (omega (arith, fits.0, fits.1)) c.in-Some.ensures.value)
+    c.is_htmltag.ensures ∙ ap is_htmltag c.means.ensures ∙ sym (ap (λ b. b && tag_next (rest s)) (sym c.if-not-is_star.ensures) ∙ tag_good s.bytes.now s.at (shown f.token) f.place f.end (omega (arith, fits.0, fits.1)) c.in-Some.ensures.value)
 
 pub returns-in-None : goal.returns-in-None
 returns-in-None c =
