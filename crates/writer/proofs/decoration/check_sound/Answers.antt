@@ -41,49 +41,49 @@ returns-in_err-found c =
     let told = c.in_err-found.ensures.value in
     rw (p.1, p.2) (told.2 ∙ sound_bad c.args.bytes.now c.loop-found.at _ _ c.loop-found.invariant.2 told.0 told.1)
 
-pub loop-found-preserved-in-Continue·-branch-3 : goal.loop-found-preserved-in-Continue·-branch-3
-loop-found-preserved-in-Continue·-branch-3 c =
-    let here = (goal.at.loop-found-preserved-in-Continue·-branch-3 c).In-Some in
-    let pushed = c.in_ok-push.ensures.cases in
+pub loop-found-preserved-in-Continue-branch-3 : goal.loop-found-preserved-in-Continue-branch-3
+loop-found-preserved-in-Continue-branch-3 c =
+    let here = (goal.at.loop-found-preserved-in-Continue-branch-3 c).In-Some in
+    let pushed = c.in_ok-push-in-Open.ensures.cases in
     let deeper = passed_open c.in-Some.found.place (stood here) (rest here) (omega (arith, pushed.0, c.loop-found.invariant.1)) in
     ((within here).2, c.push.ensures.room ∙ c.loop-found.invariant.1, ap (rest here) pushed.1 ∙ sym deeper ∙ step here _ c.in-Open.is)
 
-pub returns-in_err-push : goal.returns-in_err-push
-returns-in_err-push c =
-    let here = (goal.at.returns-in_err-push c).In-Some in
-    let p = err_from_is_err_and c.from_residual-in_err-push.result c.from_residual-in_err-push.ensures.1 in
-    let pushed = c.in_err-push.ensures.cases in
+pub returns-in_err-push-in-Open : goal.returns-in_err-push-in-Open
+returns-in_err-push-in-Open c =
+    let here = (goal.at.returns-in_err-push-in-Open c).In-Some in
+    let p = err_from_is_err_and c.from_residual-in_err-push-in-Open.result c.from_residual-in_err-push-in-Open.ensures.1 in
+    let pushed = c.in_err-push-in-Open.ensures.cases in
     let deep = passed_deep c.in-Some.found.place (stood here) (rest here) (omega (arith, pushed.0, c.loop-found.invariant.1)) in
     rw (p.1, p.2) (ap (λ f. Err (Group f)) pushed.1 ∙ sym deep ∙ step here _ c.in-Open.is)
 
-pub returns-then-is-none : goal.returns-then-is-none
-returns-then-is-none c =
-    let here = (goal.at.returns-then-is-none c).In-Some in
-    let none = passed_none c.in-Some.found.place (stood here) (rest here) (ap is_some (sym c.pop.ensures.value) ∙ c.if-is-none.ensures) in
+pub returns-then-is_none : goal.returns-then-is_none
+returns-then-is_none c =
+    let here = (goal.at.returns-then-is_none c).In-Some in
+    let none = passed_none c.in-Some.found.place (stood here) (rest here) (ap is_some (sym c.pop.ensures.value) ∙ c.if-is_none.ensures) in
     ap Err c.from.ensures ∙ sym none ∙ step here _ c.in-Close.is
 
-pub loop-found-preserved-else-is-none : goal.loop-found-preserved-else-is-none
-loop-found-preserved-else-is-none c =
-    let here = (goal.at.loop-found-preserved-else-is-none c).In-Some in
-    let close = passed_close c.in-Some.found.place (stood here) (rest here) (ap is_some (sym c.pop.ensures.value) ∙ c.if-is-none.ensures) in
+pub loop-found-preserved-else-is_none : goal.loop-found-preserved-else-is_none
+loop-found-preserved-else-is_none c =
+    let here = (goal.at.loop-found-preserved-else-is_none c).In-Some in
+    let close = passed_close c.in-Some.found.place (stood here) (rest here) (ap is_some (sym c.pop.ensures.value) ∙ c.if-is_none.ensures) in
     ((within here).2, c.pop.ensures.room ∙ c.loop-found.invariant.1, ap (rest here) c.pop.ensures.after ∙ sym close ∙ step here _ c.in-Close.is)
 
-pub returns-then-is-marker : goal.returns-then-is-marker
-returns-then-is-marker c =
-    let here = (goal.at.returns-then-is-marker c).In-Some in
-    let marker = passed_marker c.in-Some.found.place (stood here) (rest here) c.in-Word.name.now c.in-Word.number (sym c.if-is-marker.ensures) in
+pub returns-then-is_marker : goal.returns-then-is_marker
+returns-then-is_marker c =
+    let here = (goal.at.returns-then-is_marker c).In-Some in
+    let marker = passed_marker c.in-Some.found.place (stood here) (rest here) c.in-Word.name.now c.in-Word.number (sym c.if-is_marker.ensures) in
     sym marker ∙ step here _ c.in-Word.is
 
-pub loop-found-preserved-else-is-marker : goal.loop-found-preserved-else-is-marker
-loop-found-preserved-else-is-marker c =
-    let here = (goal.at.loop-found-preserved-else-is-marker c).In-Some in
-    let other = passed_word c.in-Some.found.place (stood here) (rest here) c.in-Word.name.now c.in-Word.number (sym c.if-is-marker.ensures) in
+pub loop-found-preserved-else-is_marker : goal.loop-found-preserved-else-is_marker
+loop-found-preserved-else-is_marker c =
+    let here = (goal.at.loop-found-preserved-else-is_marker c).In-Some in
+    let other = passed_word c.in-Some.found.place (stood here) (rest here) c.in-Word.name.now c.in-Word.number (sym c.if-is_marker.ensures) in
     ((within here).2, c.loop-found.invariant.1, sym other ∙ step here _ c.in-Word.is)
 
 pub loop-found-preserved : goal.loop-found-preserved
 loop-found-preserved c =
     let here = (goal.at.loop-found-preserved c).In-Some in
-    let other = passed_other c.in-Some.found.place (stood here) (rest here) c.in-Some.found.token c.in-default-token.not-Open c.in-default-token.not-Close c.in-default-token.not-Word in
+    let other = passed_other c.in-Some.found.place (stood here) (rest here) c.in-Some.found.token c.in_default-token.not-Open c.in_default-token.not-Close c.in_default-token.not-Word in
     ((within here).2, c.loop-found.invariant.1, sym other ∙ step here _ refl)
 
 -- no token is left
@@ -94,10 +94,10 @@ pub returns-in-Some-top : goal.returns-in-Some-top
 returns-in-Some-top c =
     let gs = held c.loop-found.stack.depth c.loop-found.stack.entries.now in
     ap Err c.from-in-Some-top.ensures ∙ end_some c.args.bytes.now gs c.in-Some-top.place c.in-Some-top.ensures
-    ∙ ended c.args.bytes.now c.loop-found.at gs c.in_ok-found.field-0 c.in-default.is c.in_ok-found.ensures.value c.loop-found.invariant.2
+    ∙ ended c.args.bytes.now c.loop-found.at gs c.in_ok-found.field-0 c.in_default.is c.in_ok-found.ensures.value c.loop-found.invariant.2
 
 pub returns-in-None : goal.returns-in-None
 returns-in-None c =
     let gs = held c.loop-found.stack.depth c.loop-found.stack.entries.now in
     end_none c.args.bytes.now gs c.in-None.ensures
-    ∙ ended c.args.bytes.now c.loop-found.at gs c.in_ok-found.field-0 c.in-default.is c.in_ok-found.ensures.value c.loop-found.invariant.2
+    ∙ ended c.args.bytes.now c.loop-found.at gs c.in_ok-found.field-0 c.in_default.is c.in_ok-found.ensures.value c.loop-found.invariant.2

@@ -8,4 +8,4 @@ pub returns-in-Ok : goal.returns-in-Ok
 returns-in-Ok c = let told = c.in-Ok.ensures in ap (λ bs. Ok (chars bs)) told.cases.0 ∙ sym (typed_text c.args.piece.now told.cases.1)
 
 pub returns-in-Err : goal.returns-in-Err
-returns-in-Err c = let told = c.in-Err.ensures in ap (λ n. Err (NotUtf8 n)) c.valid-up-to.ensures ∙ sym (typed_not c.args.piece.now _ told.cases.0 told.cases.1)
+returns-in-Err c = let told = c.in-Err.ensures in ap (λ n. Err (NotUtf8 n)) c.valid_up_to.ensures ∙ sym (typed_not c.args.piece.now _ told.cases.0 told.cases.1)

@@ -9,8 +9,8 @@ returns c =
     let before = shown c.args.self.now in
     record {
       value =
-          three_parts before (codes "\\'") (c.hex_digit.result ∷ []) (c.hex-digit-2.result ∷ []) _ _ _ c.push-all.ensures.value c.push.ensures.value c.push-2.ensures.value
-          ∙ ap (λ d. before ++ (codes "\\'" ++ d ∷ c.hex-digit-2.result ∷ [])) c.hex_digit.ensures
-          ∙ ap (λ d. before ++ (codes "\\'" ++ digit_char (c.args.byte / 16) ∷ d ∷ [])) c.hex-digit-2.ensures;
-      len = omega (arith, c.push-all.ensures.len, c.push.ensures.len, c.push-2.ensures.len);
+          three_parts before (codes "\\'") (c.hex_digit.result ∷ []) (c.hex_digit-2.result ∷ []) _ _ _ c.push_all.ensures.value c.push.ensures.value c.push-2.ensures.value
+          ∙ ap (λ d. before ++ (codes "\\'" ++ d ∷ c.hex_digit-2.result ∷ [])) c.hex_digit.ensures
+          ∙ ap (λ d. before ++ (codes "\\'" ++ digit_char (c.args.byte / 16) ∷ d ∷ [])) c.hex_digit-2.ensures;
+      len = omega (arith, c.push_all.ensures.len, c.push.ensures.len, c.push-2.ensures.len);
     }

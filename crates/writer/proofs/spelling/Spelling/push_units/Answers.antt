@@ -8,8 +8,8 @@ use Rattle.writer.proofs.spelling.Spelling.push_units.Goals as goal
 pub returns-else-code-lt65536 : goal.returns-else-code-lt65536
 returns-else-code-lt65536 c =
     let before = shown c.args.self.now in
-    let one = c.push-unit-else-code-lt65536.ensures in
-    let two = c.push-unit-else-code-lt65536-2.ensures in
+    let one = c.push_unit-else-code-lt65536.ensures in
+    let two = c.push_unit-else-code-lt65536-2.ensures in
     record {
       value =
           two_parts before _ _ _ _ one.value two.value

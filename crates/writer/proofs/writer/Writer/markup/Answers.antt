@@ -33,8 +33,8 @@ returns g c =
     let bs = spelled_all encoded (chars c.in_ok-text.text.now) in
     let fits = measured_ok w.size (space w.sink) (13 + length bs) c.in_ok-count.count c.in_ok-count.ensures in
     let count : c.in_ok-count.count ≡ length (tagged bs) = fits.1 ∙ sym (tagged_long bs) in
-    let put = three_parts (held w.sink) (codes "{\\*\\htmltag ") bs (codes "}") _ _ _ c.put-fitting.ensures.held c.put-text.ensures.held c.put-fitting-2.ensures.held in
-    let left : space c.put-fitting-2.new.sink ≡ space w.sink - length (tagged bs) = omega (arith, tagged_long bs, c.put-fitting.ensures.space, c.put-text.ensures.space, c.put-fitting-2.ensures.space) in
+    let put = three_parts (held w.sink) (codes "{\\*\\htmltag ") bs (codes "}") _ _ _ c.put_fitting.ensures.held c.put_text.ensures.held c.put_fitting-2.ensures.held in
+    let left : space c.put_fitting-2.new.sink ≡ space w.sink - length (tagged bs) = omega (arith, tagged_long bs, c.put_fitting.ensures.space, c.put_text.ensures.space, c.put_fitting-2.ensures.space) in
     record {
       served = served_all (g.P.CodePage.number w.page) encoded (moment w.state w.size (held w.sink) (space w.sink)) (markup c.args.piece.now) (tagged bs) c.in_ok-allowed.ensures
           (ap (λ r. and_then r (λ cs. Ok (tagged (spelled_all encoded cs)))) (sym c.in_ok-text.ensures)) (ap (room w.size (space w.sink)) (tagged_long bs) ∙ fits.0) c.in_ok-count.count _ count
