@@ -71,6 +71,7 @@ mod tests {
     // Makes a call, and checks what came of it: a refused one leaves the state, the count and the space as they were.
     fn check_call<P: CodePage, S: Sink>(
         rt: &impl Abort,
+        shows: &str,
         writer: &mut Writer<P, S>,
         name: Name,
         piece: &[u8],
@@ -79,23 +80,25 @@ mod tests {
         let open = is_open(writer);
         let count = writer.sink().count();
         let space = writer.sink().space();
-        assert_eq!(rt; made(writer, name, piece), outcome);
+        assert_eq!(rt; made(writer, name, piece), outcome, "{}", shows);
         let more = match outcome {
             Outcome::Put(more) => more,
             Outcome::Refused(_, _, _) => {
-                assert_eq!(rt; is_open(writer), open, "what is open");
+                assert_eq!(rt; is_open(writer), open, "what is open: {}", shows);
                 0
             }
         };
         assert_eq!(rt;
             writer.sink().count(),
             count.saturating_add(more),
-            "the count"
+            "the count: {}",
+            shows
         );
         assert_eq!(rt;
             writer.sink().space().saturating_add(more),
             space,
-            "the space"
+            "the space: {}",
+            shows
         );
     }
 
@@ -130,20 +133,19 @@ mod tests {
     }
 
     fn check_case(rt: &impl Abort, case: &Case) -> Result<(), Fail> {
-        let Case(_, before, space, name, piece, outcome) = *case;
+        let Case(shows, before, space, name, piece, outcome) = *case;
         let size = standing(before).saturating_add(space);
         assert!(rt; size <= ROOM);
         let mut room = [0; ROOM];
         let mut writer = Writer::new(Windows1252, BufferSink::new(&mut room[0..size]));
         prepare(&mut writer, before)?;
-        check_call(rt, &mut writer, name, piece, outcome);
+        check_call(rt, shows, &mut writer, name, piece, outcome);
         Ok(())
     }
 
     fn check_cases(rt: &impl Abort, cases: &[Case]) -> Result<(), Fail> {
         for case in cases {
-            let Case(shows, _, _, _, _, _) = *case;
-            check_case(rt, case).note(shows)?;
+            check_case(rt, case)?;
         }
         Ok(())
     }
@@ -158,7 +160,7 @@ mod tests {
         assert!(rt; space <= ROOM);
         let mut room = [0; ROOM];
         let mut writer = Writer::new(page, BufferSink::new(&mut room[0..space]));
-        check_call(rt, &mut writer, name, b"", outcome);
+        check_call(rt, "a header", &mut writer, name, b"", outcome);
     }
 
     const FULL: Outcome = Outcome::Refused(24, 0, Layer::Writer);
@@ -1065,20 +1067,19 @@ mod tests {
     }
 
     fn check_edge(rt: &impl Abort, edge: &Edge) -> Result<(), Fail> {
-        let Edge(_, length, space, name, piece, outcome) = *edge;
+        let Edge(shows, length, space, name, piece, outcome) = *edge;
         let size = length.saturating_add(space);
         assert!(rt; size <= LARGE);
         let mut room = [0; LARGE];
         let mut writer = Writer::new(Windows1252, BufferSink::new(&mut room[0..size]));
         fill(rt, &mut writer, length)?;
-        check_call(rt, &mut writer, name, piece, outcome);
+        check_call(rt, shows, &mut writer, name, piece, outcome);
         Ok(())
     }
 
     fn check_edges(rt: &impl Abort, edges: &[Edge]) -> Result<(), Fail> {
         for edge in edges {
-            let Edge(shows, _, _, _, _, _) = *edge;
-            check_edge(rt, edge).note(shows)?;
+            check_edge(rt, edge)?;
         }
         Ok(())
     }
@@ -1240,9 +1241,17 @@ mod tests {
 
     // Calls on a record to which five bytes are left: those that are refused do not count.
     fn check_last_calls<P: CodePage, S: Sink>(rt: &impl Abort, writer: &mut Writer<P, S>) {
-        check_call(rt, writer, Name::Text, b"xxxxxx", TOO_LONG);
         check_call(
             rt,
+            "a record at its limit",
+            writer,
+            Name::Text,
+            b"xxxxxx",
+            TOO_LONG,
+        );
+        check_call(
+            rt,
+            "a record at its limit",
             writer,
             Name::OpenHtml,
             b"",
@@ -1250,6 +1259,7 @@ mod tests {
         );
         check_call(
             rt,
+            "a record at its limit",
             writer,
             Name::Markup,
             b"\xFF",
@@ -1257,17 +1267,47 @@ mod tests {
         );
         check_call(
             rt,
+            "a record at its limit",
             writer,
             Name::Dress,
             b"\\bin",
             Outcome::Refused(15, 0, Layer::Writer),
         );
-        check_call(rt, writer, Name::Dress, b"", TOO_LONG);
-        check_call(rt, writer, Name::Text, b"xxxxx", Outcome::Put(5));
-        check_call(rt, writer, Name::Text, b"x", TOO_LONG);
-        check_call(rt, writer, Name::Finish, b"", Outcome::Put(1));
         check_call(
             rt,
+            "a record at its limit",
+            writer,
+            Name::Dress,
+            b"",
+            TOO_LONG,
+        );
+        check_call(
+            rt,
+            "a record at its limit",
+            writer,
+            Name::Text,
+            b"xxxxx",
+            Outcome::Put(5),
+        );
+        check_call(
+            rt,
+            "a record at its limit",
+            writer,
+            Name::Text,
+            b"x",
+            TOO_LONG,
+        );
+        check_call(
+            rt,
+            "a record at its limit",
+            writer,
+            Name::Finish,
+            b"",
+            Outcome::Put(1),
+        );
+        check_call(
+            rt,
+            "a record at its limit",
             writer,
             Name::Finish,
             b"",
@@ -1290,25 +1330,31 @@ mod tests {
     struct Spelled(&'static str, &'static [u8], &'static [u8]);
 
     // Checks what stands after the header of a text.
-    fn check_typed(rt: &impl Abort, archive: &[u8], put: &[u8]) {
-        assert!(rt; archive.len() >= 86);
-        assert!(rt; &archive[86..] == put);
+    fn check_typed(rt: &impl Abort, shows: &str, archive: &[u8], put: &[u8]) {
+        assert!(rt; archive.len() >= 86, "{}", shows);
+        assert!(rt; &archive[86..] == put, "{}", shows);
     }
 
     fn check_spelled(rt: &impl Abort, spelled: &Spelled) -> Result<(), Fail> {
-        let Spelled(_, piece, put) = *spelled;
+        let Spelled(shows, piece, put) = *spelled;
         let mut room = [0; ROOM];
         let mut writer = Writer::new(Windows1252, BufferSink::new(&mut room));
         prepare(&mut writer, Before::Text)?;
-        check_call(rt, &mut writer, Name::Text, piece, Outcome::Put(put.len()));
-        check_typed(rt, writer.into_sink().into_written(), put);
+        check_call(
+            rt,
+            shows,
+            &mut writer,
+            Name::Text,
+            piece,
+            Outcome::Put(put.len()),
+        );
+        check_typed(rt, shows, writer.into_sink().into_written(), put);
         Ok(())
     }
 
     fn check_spellings(rt: &impl Abort, spellings: &[Spelled]) -> Result<(), Fail> {
         for spelled in spellings {
-            let Spelled(shows, _, _) = *spelled;
-            check_spelled(rt, spelled).note(shows)?;
+            check_spelled(rt, spelled)?;
         }
         Ok(())
     }
@@ -1359,9 +1405,28 @@ mod tests {
         let mut room = [0; ROOM];
         let mut writer = Writer::new(Windows1252, BufferSink::new(&mut room));
         prepare(&mut writer, Before::Text)?;
-        check_call(&rt, &mut writer, Name::Text, b"\r", Outcome::Put(4));
-        check_call(&rt, &mut writer, Name::Text, b"\n", Outcome::Put(4));
-        check_typed(&rt, writer.into_sink().into_written(), b"\\'0d\\'0a");
+        check_call(
+            &rt,
+            "CR LF in two pieces",
+            &mut writer,
+            Name::Text,
+            b"\r",
+            Outcome::Put(4),
+        );
+        check_call(
+            &rt,
+            "CR LF in two pieces",
+            &mut writer,
+            Name::Text,
+            b"\n",
+            Outcome::Put(4),
+        );
+        check_typed(
+            &rt,
+            "CR LF in two pieces",
+            writer.into_sink().into_written(),
+            b"\\'0d\\'0a",
+        );
         Ok(())
     }
 
@@ -1373,24 +1438,60 @@ mod tests {
     fn a_whole_record(rt: HostRuntime) {
         let mut room = [0; ROOM];
         let mut writer = Writer::new(Windows1252, BufferSink::new(&mut room));
-        check_call(&rt, &mut writer, Name::OpenHtml, b"", Outcome::Put(100));
-        check_call(&rt, &mut writer, Name::Markup, b"<p>", Outcome::Put(16));
         check_call(
             &rt,
+            "a whole record",
+            &mut writer,
+            Name::OpenHtml,
+            b"",
+            Outcome::Put(100),
+        );
+        check_call(
+            &rt,
+            "a whole record",
+            &mut writer,
+            Name::Markup,
+            b"<p>",
+            Outcome::Put(16),
+        );
+        check_call(
+            &rt,
+            "a whole record",
             &mut writer,
             Name::Text,
             b"\xE2\x82\xAC5 {a}",
             Outcome::Put(11),
         );
-        check_call(&rt, &mut writer, Name::Dress, b"\\b ", Outcome::Put(22));
-        check_call(&rt, &mut writer, Name::Markup, b"</p>", Outcome::Put(17));
-        check_call(&rt, &mut writer, Name::Finish, b"", Outcome::Put(1));
+        check_call(
+            &rt,
+            "a whole record",
+            &mut writer,
+            Name::Dress,
+            b"\\b ",
+            Outcome::Put(22),
+        );
+        check_call(
+            &rt,
+            "a whole record",
+            &mut writer,
+            Name::Markup,
+            b"</p>",
+            Outcome::Put(17),
+        );
+        check_call(
+            &rt,
+            "a whole record",
+            &mut writer,
+            Name::Finish,
+            b"",
+            Outcome::Put(1),
+        );
         let archive = writer.into_sink().into_written();
         assert!(rt; archive.len() == 167);
         assert!(rt; &archive[0..100] == HEADER);
         assert!(rt;
             &archive[100..]
-                == b"{\\*\\htmltag <p>}\\'805 \\{a\\}\\htmlrtf \\b \\htmlrtf0 {\\*\\htmltag </p>}}"
+                == b"{\\*\\htmltag <p>}\\'805 \\{a\\}\\htmlrtf \\b \\htmlrtf0 {\\*\\htmltag </p>}}".as_slice()
         );
     }
 }
