@@ -1,11 +1,10 @@
 -- Where a walk ends: the bytes after the closing brace do not matter to it, and a fault lies within the bytes.
-use Rattle.std.proofs.Common.{◌≡◌, ℕ, zero, suc, ◌+◌, ◌-◌, ◌<◌, ◌≤◌, Bool, true, false, cond, eqb, ltb, List, [], ◌∷◌, ◌++◌, length, Ok, Err, Result, sym, refl, ap, ◌∙◌, subst, arith}
+use Rattle.std.proofs.Common.{◌≡◌, ℕ, zero, suc, ◌+◌, ◌-◌, ◌≤◌, true, eqb, ltb, List, [], ◌∷◌, ◌++◌, length, Ok, Err, Result, sym, refl, ap, ◌∙◌, arith}
 use Rattle.std.specs.List.{AllByRecursion as All}
 use Rattle.std.proofs.lemmas.Bool.{cond-true, cond-false, cond_both}
-use Rattle.tokens.specs.Tokens.{Tok, opens, closes, word, hex, symbol, text, Front, layout, fault, token, Item, good, bad, front, items_by, items}
+use Rattle.tokens.specs.Tokens.{Tok, opens, closes, word, hex, symbol, text, Front, layout, fault, token, Item, front, items_by, items}
 use Rattle.tokens.proofs.Fronts.{stops_close, front_local, front_layout, front_close}
 use Rattle.groups.specs.declared.faults.GroupFault.{GroupFault}
-use Rattle.groups.specs.declared.faults.GroupFault.TheVariants.{Token, TooDeep, Unclosed}
 use Rattle.groups.specs.Faults.{place_of}
 use Rattle.groups.specs.Stack.{below}
 use Rattle.groups.specs.Groups.{innermost, turn, closing}

@@ -4,7 +4,7 @@ use Rattle.std.proofs.lemmas.Bool.{cond-true, cond-false, eq-eqb, ne_eqb, lt-ltb
 use Rattle.tokens.specs.declared.faults.TokenFault.{TokenFault}
 use Rattle.tokens.specs.declared.lexer.Token.{Token}
 use Rattle.tokens.specs.declared.lexer.Token.TheVariants as token
-use Rattle.tokens.specs.Tokens.{Tok, opens, closes, Item, good, bad, items, next}
+use Rattle.tokens.specs.Tokens.{Tok, opens, closes, good, bad, items, next}
 use Rattle.tokens.specs.Shown.{shown}
 use Rattle.tokens.proofs.Items.{items_none, items_bad, items_good}
 use Rattle.groups.specs.declared.faults.GroupFault.{GroupFault}

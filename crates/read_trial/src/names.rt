@@ -82,7 +82,8 @@ fn is_silent(letters: &[u8]) -> bool {
     match letters {
         b"fonttbl" | b"colortbl" | b"stylesheet" | b"info" | b"pict" | b"object" => true,
         b"footnote" | b"pntext" | b"header" | b"footer" => true,
-        [front @ .., b'l' | b'r' | b'f'] => front == b"header".as_slice() || front == b"footer".as_slice(),
+        [front @ .., b'l' | b'r' | b'f'] => front == b"header".as_slice()
+            || front == b"footer".as_slice(),
         _ => false,
     }
 }

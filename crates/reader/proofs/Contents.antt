@@ -7,7 +7,7 @@ use Rattle.records.specs.declared.faults.RecordFault.TheVariants.{LoneHalf}
 use Rattle.reader.specs.declared.assemble.Half.{Half}
 use Rattle.reader.specs.declared.assemble.Joined.{Joined}
 use Rattle.reader.specs.Rules.{Effect}
-use Rattle.reader.specs.Content.{Made, make, read, before, onward, characters}
+use Rattle.reader.specs.Content.{make, read, before, onward, characters}
 use Rattle.reader.specs.Pieces.{characters_of, shown_joined}
 use Rattle.reader.specs.Walk.{as_bytes}
 

@@ -1,13 +1,13 @@
 -- The searches over the first tokens of a record, one token at a time.
-use Rattle.std.proofs.Common.{◌≡◌, ℕ, zero, suc, ◌-◌, ◌<◌, ◌≤◌, Bool, true, false, cond, List, [], ◌∷◌, drop, Some, None, Ok, Err, Option, Result, sym, refl, ap, ◌∙◌, ⊎_elim, arith}
+use Rattle.std.proofs.Common.{◌≡◌, ℕ, zero, suc, ◌-◌, ◌<◌, ◌≤◌, Bool, List, drop, Some, Err, Option, Result, sym, refl, ap, ◌∙◌, ⊎_elim, arith}
 use Rattle.std.proofs.lemmas.Bool.{cond-true, cond-false, le-leb, lt-leb}
-use Rattle.tokens.specs.Tokens.{Tok, Item, good, bad, items, next}
+use Rattle.tokens.specs.Tokens.{Tok, good, items, next}
 use Rattle.tokens.proofs.Items.{items_good}
 use Rattle.records.specs.declared.faults.RecordFault.{RecordFault}
 use Rattle.records.specs.declared.faults.RecordFault.TheVariants.{NoEncapsulation, WrongPage}
 use Rattle.records.specs.declared.kinds.Kind.{Kind}
 use Rattle.reader.specs.declared.recognise.Sign.{Sign}
-use Rattle.reader.specs.declared.recognise.Sign.TheVariants.{Mark, Pass, Stop}
+use Rattle.reader.specs.declared.recognise.Sign.TheVariants.{Pass}
 use Rattle.reader.specs.Recognition.{found, sign_of, recognised, declares, declared_by, declared}
 use Rattle.reader.specs.Tokens.{Ended}
 use Rattle.reader.proofs.Walks.{ended_items}

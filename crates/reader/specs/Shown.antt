@@ -1,5 +1,4 @@
 -- How the code's effects and turns show as those of the rules: a text by its characters.
-use Rattle.std.specs.Prelude.{ℕ, List}
 use Rattle.std.specs.Option.{option_map, unwrap_or}
 use Rattle.std.specs.Str.{chars}
 use Rattle.reader.specs.declared.rules.Effect.{Effect as Told}

@@ -1,6 +1,5 @@
 -- What is still to come from a walk through a record.
 use Rattle.std.specs.Prelude.{◌≡◌, ℕ, ◌+◌, Bool, false, cond, ◌&&◌, List, [], ◌∷◌, length, take, drop, Some, None, Option, ◌==◌}
-use Rattle.std.specs.Option.{option_map}
 use Rattle.std.specs.List.{prefix_len}
 use Rattle.tokens.specs.Tokens.{Item, items, is_plain}
 use Rattle.groups.specs.Stack.{held, room}

@@ -5,7 +5,6 @@ use Rattle.records.specs.declared.kinds.Kind.{Kind}
 use Rattle.records.specs.declared.kinds.Kind.TheVariants.{Html, Text}
 use Rattle.reader.specs.declared.words.Named.{Named}
 use Rattle.reader.specs.declared.words.Named.TheVariants.{Lsquo, Rsquo, Ldquo, Rdquo, Bull, Ndash, Mdash, Nbsp, Shy}
-use Rattle.reader.specs.declared.words.Content.{Content}
 use Rattle.reader.specs.declared.words.Content.TheVariants.{Break, Tab, Mark, Fallback, Unicode}
 use Rattle.reader.specs.declared.words.Word.{Word}
 use Rattle.reader.specs.declared.words.Word.TheVariants as word

@@ -1,13 +1,12 @@
 -- A record stands alone: what follows its closing brace changes neither the record nor its end.
-use Rattle.std.proofs.Common.{◌≡◌, ℕ, zero, suc, ◌+◌, ◌-◌, ◌<◌, ◌≤◌, Bool, true, false, cond, ◌&&◌, eqb, List, [], ◌∷◌, ◌++◌, length, take, drop, Ok, Err, codes, Result, sym, refl, ap, ◌∙◌, subst, append_assoc, arith, length-append}
+use Rattle.std.proofs.Common.{◌≡◌, ℕ, ◌+◌, ◌<◌, ◌≤◌, true, false, ◌&&◌, eqb, List, [], ◌∷◌, ◌++◌, length, take, drop, Ok, Err, codes, Result, sym, refl, ap, ◌∙◌, append_assoc, arith, length-append}
 use Rattle.std.specs.List.{AllByRecursion as All}
 use Rattle.std.specs.Str.{bytes_eq}
-use Rattle.std.proofs.lemmas.List.{take-append-le, drop-append-le, take_all, take_at, drop_at}
+use Rattle.std.proofs.lemmas.List.{take-append-le, drop-append-le, take_all, take_at}
 use Rattle.std.proofs.lemmas.Bool.{cond-true, cond_both, and_parts, both_ways}
 use Rattle.groups.specs.declared.faults.GroupFault.{GroupFault}
 use Rattle.groups.specs.Groups.{group_end}
-use Rattle.groups.proofs.Ends.{Ends, closing_ends, closing_within}
-use Rattle.records.specs.declared.faults.RecordFault.{RecordFault}
+use Rattle.groups.proofs.Ends.{closing_ends}
 use Rattle.records.specs.Apart.{no_digit, is_rtf, passed_up, first_end}
 use Rattle.records.specs.Laws.{IsRecord}
 

@@ -1,5 +1,5 @@
 -- An archive taken apart, step by step and as a whole.
-use Rattle.std.proofs.Common.{◌≡◌, ℕ, zero, suc, ◌+◌, ◌-◌, ◌<◌, ◌≤◌, cond, List, [], ◌∷◌, ◌++◌, length, get_or, take, drop, Ok, Err, Result, sym, refl, ap, ◌∙◌, subst, add-zero, arith, length-drop}
+use Rattle.std.proofs.Common.{◌≡◌, ℕ, zero, suc, ◌+◌, ◌-◌, ◌<◌, ◌≤◌, List, [], ◌∷◌, ◌++◌, length, get_or, take, drop, Ok, Err, Result, sym, refl, ap, ◌∙◌, subst, add-zero, arith, length-drop}
 use Rattle.std.specs.List.{flat_map, AllByRecursion as All}
 use Rattle.std.proofs.lemmas.List.{drop_more, drop-drop, drop_at, take_at, take-append-drop, length-take-le}
 use Rattle.std.proofs.lemmas.Bool.{cond_both}
@@ -8,7 +8,7 @@ use Rattle.groups.specs.Groups.{group_end}
 use Rattle.groups.proofs.Ends.{Within, closing_within}
 use Rattle.records.specs.declared.faults.RecordFault.{RecordFault}
 use Rattle.records.specs.declared.faults.RecordFault.TheVariants.{NotRtf, Group}
-use Rattle.records.specs.Apart.{is_rtf, first_end, passed_up, Series, record', refused, ended, series_by, series}
+use Rattle.records.specs.Apart.{is_rtf, first_end, passed_up, record', refused, series_by, series}
 use Rattle.records.specs.Faults.{place_of}
 use Rattle.records.specs.Laws.{ComesApart, IsRecord, chain, ComeBack}
 use Rattle.records.proofs.Alone.{never, first_fits, record_alone}

@@ -1,5 +1,5 @@
 -- Worked examples of taking apart, computed from the definitions.
-use Rattle.std.specs.Prelude.{◌≡◌, ℕ, List, [], ◌∷◌, ◌++◌, replicate, Ok, Err, codes}
+use Rattle.std.specs.Prelude.{◌≡◌, ℕ, List, [], ◌++◌, replicate, Ok, Err, codes}
 use Rattle.tokens.specs.declared.faults.Flaw.TheVariants.{NoHexDigits}
 use Rattle.groups.specs.declared.faults.GroupFault.TheVariants.{Token, TooDeep, Unclosed}
 use Rattle.records.specs.declared.faults.RecordFault.TheVariants.{NotRtf, Group}

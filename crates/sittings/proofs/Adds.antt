@@ -1,14 +1,14 @@
 -- What a call puts into an open record: tokens that leave its group as it was, and add the characters of the piece.
-use Rattle.std.proofs.Common.{◌≡◌, ℕ, zero, suc, ◌+◌, ◌-◌, ◌<◌, ◌≤◌, Bool, true, false, cond, ◌&&◌, ◌||◌, eqb, ltb, leb, List, [], ◌∷◌, ◌++◌, length, drop, ℤ, pos, Some, None, Ok, Err, codes, Option, Result, sym, refl, ap, ◌∙◌, subst, add-zero, arith, length-append}
+use Rattle.std.proofs.Common.{◌≡◌, ℕ, zero, suc, ◌+◌, ◌-◌, ◌≤◌, Bool, true, false, cond, eqb, ltb, leb, List, [], ◌∷◌, ◌++◌, length, drop, pos, Some, None, Ok, Err, codes, Option, Result, sym, refl, ap, ◌∙◌, add-zero, arith}
 use Rattle.std.specs.List.{AllByRecursion as All}
 use Rattle.std.specs.Str.{bytes_eq}
 use Rattle.std.proofs.lemmas.Bool.{cond_both, leb-true, ltb-true, ne_eqb, or_parts, or_from, and_parts, both_ways}
-use Rattle.tokens.specs.Tokens.{Tok, opens, closes, word, hex, symbol, text, Front, layout, fault, token, Item, good, bad, front, items_by, items, within}
+use Rattle.tokens.specs.Tokens.{Tok, opens, closes, word, hex, symbol, text, Front, layout, fault, token, good, front, items_by, items, within}
 use Rattle.tokens.specs.declared.faults.TokenFault.{TokenFault}
 use Rattle.tokens.specs.Names.{name_at}
 use Rattle.tokens.specs.declared.scan.Class.TheVariants.{Layout}
 use Rattle.tokens.proofs.Fronts.{stops_backslash, front_positive, front_solid}
-use Rattle.tokens.proofs.Lexed.{placed, spans, Lexed, LexedBefore, lexed_nil, lexed_append, lexed_then, lexed_before, lexed_open, lexed_close, lexed_symbol, lexed_spaced}
+use Rattle.tokens.proofs.Lexed.{placed, spans, Lexed, lexed_nil, lexed_append, lexed_then, lexed_before, lexed_open, lexed_close, lexed_symbol, lexed_spaced}
 use Rattle.groups.specs.declared.faults.GroupFault.TheVariants.{Token, Unbalanced}
 use Rattle.groups.proofs.Passes.{Level, level_more, level_append, level_group}
 use Rattle.records.specs.declared.kinds.Kind.{Kind}
@@ -21,7 +21,7 @@ use Rattle.reader.proofs.Says.{plain_outermost, plain_inside, plain_tag, Says, s
 use Rattle.writer.specs.declared.faults.WriterFault.{WriterFault}
 use Rattle.writer.specs.declared.faults.WriterFault.TheVariants.{Group, MarkerWord, NotPrintable}
 use Rattle.writer.specs.Header.{tagged, dressed}
-use Rattle.writer.specs.Decoration.{is_printable, printable, markers, among, unless_marker, deeper, shallower, passed, faulty, sound, decoration_by, decoration}
+use Rattle.writer.specs.Decoration.{is_printable, printable, markers, among, passed, faulty, sound, decoration_by, decoration}
 use Rattle.sittings.proofs.Spelt.{Spells}
 
 -- The bytes xs, put into an open record of a kind, add the characters cs.

@@ -1,9 +1,9 @@
 -- The header of a record: its tokens, and that they add nothing.
-use Rattle.std.proofs.Common.{◌≡◌, ℕ, ◌+◌, ◌^◌, ◌<◌, ◌≤◌, true, List, [], ◌∷◌, ◌++◌, length, ℤ, pos, Some, None, Ok, codes, decimal, Option, sym, refl, ap, ◌∙◌, subst, arith}
+use Rattle.std.proofs.Common.{◌≡◌, ℕ, ◌+◌, ◌^◌, ◌<◌, true, List, [], ◌∷◌, ◌++◌, length, ℤ, pos, Some, None, Ok, codes, decimal, Option, refl, ap, arith}
 use Rattle.std.proofs.lemmas.Bool.{eq-eqb}
-use Rattle.tokens.specs.Tokens.{Tok, opens, closes, word, hex, symbol, text, Item, good}
-use Rattle.tokens.proofs.Fronts.{stops_backslash, stops_open, stops_close}
-use Rattle.tokens.proofs.Lexed.{placed, Lexed, LexedBefore, lexed_append, lexed_then, lexed_then_before, lexed_before, lexed_close, lexed_spaced, lexed_number}
+use Rattle.tokens.specs.Tokens.{Tok, opens, closes, word, symbol, text, Item, good}
+use Rattle.tokens.proofs.Fronts.{stops_backslash, stops_close}
+use Rattle.tokens.proofs.Lexed.{placed, Lexed, LexedBefore, lexed_then, lexed_before, lexed_close, lexed_spaced, lexed_number}
 use Rattle.groups.proofs.Passes.{Level}
 use Rattle.records.specs.declared.kinds.Kind.{Kind}
 use Rattle.records.specs.declared.kinds.Kind.TheVariants.{Html, Text}

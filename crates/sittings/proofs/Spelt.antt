@@ -1,13 +1,13 @@
 -- A piece as it is spelled: it reads as its characters.
-use Rattle.std.proofs.Common.{◌≡◌, ℕ, ◌+◌, ◌-◌, ◌/◌, ◌%◌, ◌<◌, ◌≤◌, Bool, true, false, cond, ◌&&◌, ◌||◌, eqb, ltb, leb, ◌⊎◌, List, [], ◌∷◌, ◌++◌, length, ℤ, Some, None, codes, Option, sym, refl, ap, ◌∙◌, subst, inl, inr, ⊎_elim, append-nil, arith}
+use Rattle.std.proofs.Common.{◌≡◌, ℕ, ◌+◌, ◌-◌, ◌/◌, ◌%◌, ◌<◌, ◌≤◌, true, false, ◌&&◌, ◌||◌, eqb, ltb, leb, ◌⊎◌, List, [], ◌∷◌, ◌++◌, length, Some, None, codes, Option, sym, refl, ap, ◌∙◌, subst, inl, inr, ⊎_elim, arith}
 use lib.Utf8.{scalar, scalars}
 use Rattle.std.specs.List.{flat_map, AllByRecursion as All}
 use Rattle.std.specs.Char.{is_ascii_alphabetic}
 use Rattle.std.specs.Fmt.{signed_decimal}
-use Rattle.std.proofs.lemmas.Bool.{cond-true, cond-false, cond_both, eqb-true, leb-true, ltb-true, ltb-false, ne_eqb, or_parts, or_cases, and_parts, cases_Bool}
+use Rattle.std.proofs.lemmas.Bool.{cond_both, eqb-true, leb-true, ltb-true, ltb-false, ne_eqb, or_parts, or_cases, and_parts, cases_Bool}
 use Rattle.tokens.specs.Tokens.{Tok, word, hex, symbol, text}
 use Rattle.tokens.proofs.Fronts.{stops_question}
-use Rattle.tokens.proofs.Lexed.{Lexed, LexedBefore, lexed_nil, lexed_append, lexed_then, lexed_text, lexed_symbol, lexed_spaced, lexed_hex, lexed_number}
+use Rattle.tokens.proofs.Lexed.{Lexed, lexed_nil, lexed_append, lexed_then, lexed_text, lexed_symbol, lexed_spaced, lexed_hex, lexed_number}
 use Rattle.groups.proofs.Passes.{Level, level_append}
 use Rattle.records.specs.declared.kinds.Kind.{Kind}
 use Rattle.reader.specs.declared.state.ReadingState.{ReadingState}

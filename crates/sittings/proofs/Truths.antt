@@ -7,7 +7,7 @@ use Rattle.std.proofs.lemmas.Bool.{cond-false, le-ltb}
 use Rattle.records.specs.declared.faults.RecordFault.{RecordFault}
 use Rattle.records.specs.declared.kinds.Kind.{Kind}
 use Rattle.records.specs.declared.kinds.Kind.TheVariants.{Html, Text}
-use Rattle.records.specs.Apart.{first_end, record', ended as ended_series, series}
+use Rattle.records.specs.Apart.{first_end, series}
 use Rattle.records.specs.Laws.{IsRecord, chain}
 use Rattle.records.proofs.Alone.{never, first_fits, record_alone}
 use Rattle.records.proofs.Series.{come_back}
@@ -19,11 +19,11 @@ use Rattle.writer.specs.declared.faults.WriterFault.TheVariants.{NoSpace}
 use Rattle.writer.specs.declared.state.CallKind.TheVariants as call
 use Rattle.writer.specs.States.{allowed}
 use Rattle.writer.specs.Calls.{Ask, begin, markup, text, dress, finish, Moment, and_then, fits, answer, after, left_by, step}
-use Rattle.sittings.specs.Sittings.{Script, Sitting, grown, ended, accepted, next_by, next, goes, start, sitting, brace_of, closed, opened, Entry, entry_of, open_entry, list_of}
+use Rattle.sittings.specs.Sittings.{Script, Sitting, grown, ended, accepted, next_by, next, goes, start, sitting, brace_of, entry_of, open_entry}
 use Rattle.sittings.specs.Calls.{left}
 use Rattle.sittings.specs.Truth.{Reads, NeverLies}
 use Rattle.sittings.proofs.Lawful.{Lawful}
-use Rattle.sittings.proofs.Runs.{bytes_of, Begun, Done, OpenAs, Current, Sound, joined_append, done_reads, done_record, begun_closes, sittings_sound}
+use Rattle.sittings.proofs.Runs.{bytes_of, Done, OpenAs, Current, joined_append, done_reads, done_record, begun_closes, sittings_sound}
 
 -- A sitting's writer and sink are as its calls leave them.
 next_moment : (page : ℕ) (encoded : ℕ → Option ℕ) (s : Sitting) (a : Ask) → (next page encoded s a).moment ≡ step page encoded s.moment a

@@ -1,9 +1,9 @@
 -- The units of a character, as numbers and back.
-use Rattle.std.proofs.Common.{◌≡◌, ℕ, ◌+◌, ◌-◌, ◌*◌, ◌/◌, ◌%◌, ◌^◌, ◌<◌, ◌≤◌, true, false, cond, ◌&&◌, ltb, leb, ℤ, pos, negsuc, sym, refl, ap, ◌∙◌, subst, ⊎_elim, arith}
+use Rattle.std.proofs.Common.{◌≡◌, ℕ, ◌+◌, ◌-◌, ◌/◌, ◌%◌, ◌^◌, ◌<◌, ◌≤◌, true, false, ltb, leb, pos, negsuc, ap, ◌∙◌, ⊎_elim, arith}
 use lib.Signed.{mag}
 use lib.Utf8.{scalar, scalar_cases}
-use Rattle.std.proofs.lemmas.Bool.{cond-true, cond-false, cond_both, ltb-true, ltb-false, lt-ltb, le-leb, lt-leb, and_left, and_right, and_from}
-use Rattle.reader.specs.Rules.{Effect, unit, beyond, unit_of}
+use Rattle.std.proofs.lemmas.Bool.{cond-true, cond_both, ltb-false, lt-ltb, le-leb, lt-leb, and_left, and_right, and_from}
+use Rattle.reader.specs.Rules.{unit, unit_of}
 use Rattle.reader.specs.Content.{is_high, is_low, pair_of}
 use Rattle.writer.specs.Spelling.{unit_number}
 

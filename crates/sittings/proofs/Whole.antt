@@ -1,20 +1,18 @@
 -- A record that was written: it comes apart as one record, and reads as what was written.
-use Rattle.std.proofs.Common.{◌≡◌, ℕ, ◌+◌, ◌-◌, ◌^◌, ◌<◌, ◌≤◌, true, false, cond, eqb, ltb, List, [], ◌∷◌, ◌++◌, length, take, drop, pos, Some, None, Ok, Err, codes, decimal, Option, Result, sym, refl, ap, ◌∙◌, subst, append_assoc, append-nil, arith, length-append}
+use Rattle.std.proofs.Common.{◌≡◌, ℕ, ◌+◌, ◌^◌, ◌<◌, ◌≤◌, ltb, List, [], ◌∷◌, ◌++◌, length, None, Ok, Err, Option, sym, ap, ◌∙◌, subst, append-nil, arith, length-append}
 use lib.Utf8.{encodes}
 use Rattle.std.proofs.lemmas.List.{take_all, drop_all}
-use Rattle.std.proofs.lemmas.Bool.{cond-true, cond-false, eq-eqb, le-ltb}
-use Rattle.tokens.specs.Tokens.{Tok, opens, closes, Item, good, items}
+use Rattle.std.proofs.lemmas.Bool.{cond-true, cond-false, le-ltb}
+use Rattle.tokens.specs.Tokens.{opens, good, items}
 use Rattle.tokens.proofs.Lexed.{placed, lexed_append}
-use Rattle.groups.specs.Groups.{closing, group_end}
+use Rattle.groups.specs.Groups.{closing}
 use Rattle.groups.proofs.Passes.{level_passes, level_append}
-use Rattle.records.specs.declared.faults.RecordFault.{RecordFault}
 use Rattle.records.specs.declared.faults.RecordFault.TheVariants.{ShortBuffer}
 use Rattle.records.specs.declared.kinds.Kind.{Kind}
-use Rattle.records.specs.declared.kinds.Kind.TheVariants.{Html, Text}
-use Rattle.records.specs.Apart.{is_rtf, passed_up, first_end}
+use Rattle.records.specs.Apart.{passed_up, first_end}
 use Rattle.records.specs.Laws.{IsRecord}
 use Rattle.reader.specs.Rules.{outermost, effects}
-use Rattle.reader.specs.Content.{before, characters}
+use Rattle.reader.specs.Content.{characters}
 use Rattle.reader.specs.Recognition.{recognised, declared}
 use Rattle.reader.specs.Reading.{and_then, trailing, sound_record, content_of, record_of, fitting, read_of}
 use Rattle.reader.proofs.Checks.{sound_first}

@@ -9,7 +9,7 @@ use Rattle.writer.specs.Writers.{begun}
 use Rattle.sittings.specs.declared.calls.Answer.{Answer}
 use Rattle.sittings.specs.declared.calls.Answer.TheVariants.{Accepted, Refused}
 use Rattle.sittings.specs.Calls.{answers}
-use Rattle.sittings.specs.Sittings.{Sitting, sitting, Entry, list_of}
+use Rattle.sittings.specs.Sittings.{Sitting, sitting, list_of}
 
 abbrev pub in1252 : ℕ → List Ask → Sitting
 in1252 space asks = sitting 1252 (byte_of chars1252) space asks

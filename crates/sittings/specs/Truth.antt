@@ -1,5 +1,5 @@
 -- What holds at every moment of every sitting: the archive does not lie.
-use Rattle.std.specs.Prelude.{◌≡◌, ℕ, ◌≤◌, List, [], ◌∷◌, ◌++◌, map, length, IfSome, Ok, Option, OnSome}
+use Rattle.std.specs.Prelude.{◌≡◌, ℕ, ◌≤◌, List, [], ◌∷◌, map, length, IfSome, Ok, Option, OnSome}
 use Rattle.std.specs.List.{AllByRecursion as All}
 use Rattle.records.specs.Apart.{series}
 use Rattle.records.specs.Laws.{chain}

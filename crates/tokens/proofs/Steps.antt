@@ -1,8 +1,8 @@
 -- What stands at a place, by the steps in which the lexer looks.
-use Rattle.std.proofs.Common.{◌≡◌, ℕ, zero, suc, ◌+◌, ◌-◌, ◌<◌, ◌≤◌, Bool, true, false, cond, ltb, List, [], ◌∷◌, length, get_or, take, drop, ℤ, Some, None, Option, sym, refl, ap, ◌∙◌, ⊎_elim, add-zero, one-add, arith, length-drop, length-take}
+use Rattle.std.proofs.Common.{◌≡◌, ℕ, ◌+◌, ◌-◌, ◌<◌, ◌≤◌, Bool, true, false, cond, ltb, List, [], ◌∷◌, length, get_or, take, drop, ℤ, None, Option, sym, refl, ap, ◌∙◌, ⊎_elim, add-zero, one-add, arith, length-drop}
 use Rattle.std.specs.Char.{is_ascii_alphabetic}
 use Rattle.std.specs.List.{prefix_len}
-use Rattle.std.proofs.lemmas.List.{at_drop_more, at_drop_all, drop-drop, drop_more, drop_all, get_or-drop}
+use Rattle.std.proofs.lemmas.List.{at_drop_more, at_drop_all, drop-drop, drop_more, get_or-drop}
 use Rattle.std.proofs.lemmas.Bool.{cond-true, cond-false, ne_eqb, lt-ltb, le-ltb, cases_Bool}
 use Rattle.tokens.specs.declared.faults.Flaw.TheVariants.{LoneBackslash, NoHexDigits, LongName}
 use Rattle.tokens.specs.declared.scan.Class.TheVariants.{Layout}

@@ -1,12 +1,12 @@
 -- The checks of decoration, one byte, one word and one token after the other.
-use Rattle.std.proofs.Common.{◌≡◌, ℕ, ◌+◌, ◌<◌, ◌≤◌, Bool, true, false, cond, ◌||◌, List, [], ◌∷◌, map, length, get_or, drop, ℤ, is_some, Some, None, Ok, Err, Option, Result, sym, refl, ap, ◌∙◌, Bor}
+use Rattle.std.proofs.Common.{◌≡◌, ℕ, ◌+◌, ◌<◌, ◌≤◌, true, false, ◌||◌, List, [], ◌∷◌, map, length, get_or, drop, ℤ, is_some, Some, None, Ok, Err, Option, Result, sym, refl, ap, ◌∙◌, Bor}
 use Rattle.std.specs.Str.{bytes_eq}
 use Rattle.std.proofs.lemmas.List.{at_drop_more, at_drop_all}
 use Rattle.std.proofs.lemmas.Bool.{cond-true, cond-false, lt-ltb, le-ltb, false≢true, true≢false}
 use Rattle.tokens.specs.declared.faults.TokenFault.{TokenFault}
 use Rattle.tokens.specs.declared.lexer.Token.{Token}
 use Rattle.tokens.specs.declared.lexer.Token.TheVariants as token
-use Rattle.tokens.specs.Tokens.{Tok, opens, closes, word, Item, good, bad, items, next}
+use Rattle.tokens.specs.Tokens.{Tok, opens, closes, word, good, bad, items, next}
 use Rattle.tokens.specs.Shown.{shown}
 use Rattle.tokens.proofs.Items.{items_none, items_bad, items_good}
 use Rattle.groups.specs.declared.faults.GroupFault.TheVariants.{TooDeep, Unbalanced}

@@ -1,5 +1,5 @@
 -- How long the bytes around what is typed are.
-use Rattle.std.proofs.Common.{◌≡◌, ℕ, ◌+◌, List, ◌++◌, length, codes, decimal, arith, length-append}
+use Rattle.std.proofs.Common.{◌≡◌, ℕ, ◌+◌, List, length, codes, decimal, arith, length-append}
 use Rattle.records.specs.declared.kinds.Kind.{Kind}
 use Rattle.writer.specs.Header.{mark_of, start_of, header, tagged, dressed}
 use Rattle.writer.proofs.Appends.{five_long}

@@ -1,7 +1,7 @@
 -- A piece spelled character by character: what each puts, and the CR that waits.
 use Rattle.std.proofs.Common.{◌≡◌, ℕ, Bool, true, false, cond, ◌&&◌, eqb, List, [], ◌∷◌, ◌++◌, codes, Option, sym, refl, ap, ◌∙◌, subst, ⊎_elim, append_assoc, append-nil}
 use Rattle.std.specs.List.{flat_map}
-use Rattle.std.proofs.lemmas.Bool.{cond-true, cond-false, eqb-true, cases_Bool}
+use Rattle.std.proofs.lemmas.Bool.{cond-false, eqb-true, cases_Bool}
 use Rattle.writer.specs.Spelling.{Key, break, key, press, keys, spelled, spelled_key, spelled_all, onward, at_end}
 
 -- The characters that are not put yet: a CR that waits, and those to come.

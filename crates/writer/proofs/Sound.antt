@@ -1,11 +1,10 @@
 -- The test of UTF-8, and the longest front that passes it.
-use Rattle.std.proofs.Common.{◌≡◌, ℕ, zero, suc, ◌<◌, ◌≤◌, true, false, cond, List, [], length, take, Ok, Err, IsUtf8, sym, refl, ap, ◌∙◌, subst, ⊎_elim, arith}
+use Rattle.std.proofs.Common.{◌≡◌, ℕ, zero, suc, ◌<◌, ◌≤◌, true, false, List, length, take, Ok, Err, IsUtf8, sym, ap, ◌∙◌, subst, ⊎_elim, arith}
 use lib.Utf8.{scalars, encodes}
 use Rattle.std.specs.Str.{IsValidUpTo, chars, bytes_eq}
 use Rattle.std.proofs.lemmas.Slice.Eq.{bytes_eq-Decides}
-use Rattle.std.proofs.lemmas.List.{take_all}
 use Rattle.std.proofs.lemmas.Bool.{cond-true, cond-false, and_parts, and_from, cases_Bool, cases_eq}
-use Rattle.std.proofs.lemmas.Str.{encodes-chars, scalars-chars, IsUtf8-nil}
+use Rattle.std.proofs.lemmas.Str.{encodes-chars, scalars-chars}
 use Rattle.writer.specs.declared.faults.WriterFault.TheVariants.{NotUtf8}
 use Rattle.writer.specs.Pieces.{is_utf8, sound_front, typed}
 

@@ -1,4 +1,4 @@
-use Rattle.std.proofs.Common.{◌≡◌, ◌-◌, ◌<◌, ◌≤◌, [], ◌∷◌, length, drop}
+use Rattle.std.proofs.Common.{◌≡◌, ◌-◌, ◌<◌, ◌≤◌, length, drop}
 use Rattle.tokens.specs.Tokens.{items}
 use Rattle.groups.specs.Stack.{held}
 use Rattle.groups.specs.Groups.{closing, group_end}

@@ -2,7 +2,6 @@ use Rattle.std.proofs.Common.{◌≡◌, ℕ, List, length}
 use lib.Utf8.{encodes}
 use Rattle.reader.specs.Content.{before, characters}
 use Rattle.reader.specs.Guarded.{Holds}
-use Rattle.reader.specs.Reading.{content_of}
 use Rattle.reader.specs.Walk.{to_come}
 use Rattle.reader.proofs.reading.put_content.Given as goal
 

@@ -1,8 +1,7 @@
-use Rattle.std.proofs.Common.{◌≡◌, ◌++◌, sym, refl, ap, ◌∙◌}
+use Rattle.std.proofs.Common.{◌≡◌, sym, ap, ◌∙◌}
 use lib.Utf8.{encodes}
 use Rattle.std.specs.Str.{chars}
 use Rattle.std.proofs.lemmas.Str.{encodes-chars}
-use Rattle.reader.specs.Guarded.{Holds}
 use Rattle.reader.specs.Pieces.{characters_of}
 use Rattle.reader.proofs.reading.put_piece.Goals as goal
 

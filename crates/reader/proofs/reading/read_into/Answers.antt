@@ -1,9 +1,8 @@
-use Rattle.std.proofs.Common.{◌≡◌, List, Ok, Err, sym, refl, ap, ◌∙◌, arith}
+use Rattle.std.proofs.Common.{refl, ap, ◌∙◌, arith}
 use lib.Utf8.{encodes}
 use Rattle.std.proofs.lemmas.Result.{err_from_is_err_and}
 use Rattle.tokens.specs.Tokens.{items}
 use Rattle.reader.specs.Recognition.{declared}
-use Rattle.reader.specs.Reading.{sound_record, shown_bytes}
 use Rattle.reader.proofs.Guards.{told_length, told_too_long}
 use Rattle.reader.proofs.Whole.{by_page, by_content, told_fitting, told_short}
 use Rattle.reader.proofs.reading.read_into.Goals as goal

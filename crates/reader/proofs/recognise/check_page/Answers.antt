@@ -1,8 +1,8 @@
-use Rattle.std.proofs.Common.{◌≡◌, ◌-◌, Bool, drop, Some, Option, Result, sym, refl, ap, ◌∙◌, arith}
+use Rattle.std.proofs.Common.{◌≡◌, ◌-◌, Bool, drop, Some, Option, Result, sym, ap, ◌∙◌, arith}
 use Rattle.records.specs.declared.faults.RecordFault.{RecordFault}
 use Rattle.tokens.specs.Shown.{shown}
 use Rattle.tokens.specs.Tokens.{items}
-use Rattle.reader.specs.Recognition.{declares, declared_by, declared}
+use Rattle.reader.specs.Recognition.{declared_by, declared}
 use Rattle.reader.proofs.Marks.{ended_page, page_found}
 use Rattle.reader.proofs.recognise.check_page.Goals as goal
 use Rattle.reader.proofs.recognise.check_page.Goals.{After-declares}

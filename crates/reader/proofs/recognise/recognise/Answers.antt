@@ -1,4 +1,4 @@
-use Rattle.std.proofs.Common.{◌≡◌, ◌-◌, drop, Result, sym, refl, ap, ◌∙◌, arith}
+use Rattle.std.proofs.Common.{◌≡◌, ◌-◌, drop, Result, sym, ◌∙◌, arith}
 use Rattle.records.specs.declared.faults.RecordFault.{RecordFault}
 use Rattle.tokens.specs.Shown.{shown}
 use Rattle.tokens.specs.Tokens.{items}

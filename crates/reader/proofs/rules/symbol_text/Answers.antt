@@ -1,4 +1,4 @@
-use Rattle.std.proofs.Common.{◌≡◌, sym, ap, ⊎_elim}
+use Rattle.std.proofs.Common.{sym, ap, ⊎_elim}
 use Rattle.std.specs.Str.{chars}
 use Rattle.reader.specs.Rules.{symbol_text}
 use Rattle.reader.proofs.rules.symbol_text.Goals as goal

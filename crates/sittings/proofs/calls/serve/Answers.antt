@@ -1,4 +1,4 @@
-use Rattle.std.proofs.Common.{◌≡◌, ◌<◌, length, get_or, ap, ◌∙◌, arith}
+use Rattle.std.proofs.Common.{◌<◌, length, get_or, ap, ◌∙◌, arith}
 use Rattle.records.specs.declared.kinds.Kind.TheVariants.{Html}
 use Rattle.writer.specs.Calls.{step}
 use Rattle.writer.specs.Writers.{moment}

@@ -1,4 +1,4 @@
-use Rattle.std.proofs.Common.{◌≡◌, ◌+◌, ◌-◌, ◌≤◌, length, take, drop, Some, None, sym, refl, ap, ◌∙◌, add-zero, arith, length-drop, length-take, w32, SFits, rules}
+use Rattle.std.proofs.Common.{◌≡◌, ◌+◌, ◌-◌, length, take, drop, Some, None, sym, refl, ap, ◌∙◌, add-zero, arith, length-drop, length-take, w32, SFits, rules}
 use Rattle.std.proofs.lemmas.Int.{to_z-of_z}
 use Rattle.tokens.specs.Tokens.{next_by}
 use Rattle.tokens.proofs.Steps.{named_long, named_by, spaced_at}

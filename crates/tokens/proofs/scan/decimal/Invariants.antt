@@ -1,5 +1,5 @@
 use Rattle.std.proofs.Common.{◌≡◌, take}
-use Rattle.std.specs.Str.Parse.{digits_value, AllDigits}
+use Rattle.std.specs.Str.Parse.{digits_value}
 use Rattle.tokens.proofs.scan.decimal.Given as goal
 
 abbrev pub invariant-loop-d : goal.invariant-loop-d

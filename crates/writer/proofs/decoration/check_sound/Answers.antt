@@ -6,7 +6,7 @@ use Rattle.tokens.specs.Tokens.{Tok, items, next}
 use Rattle.tokens.specs.Shown.{shown}
 use Rattle.groups.specs.Stack.{held}
 use Rattle.writer.specs.declared.faults.WriterFault.{WriterFault}
-use Rattle.writer.specs.declared.faults.WriterFault.TheVariants.{Group, MarkerWord}
+use Rattle.writer.specs.declared.faults.WriterFault.TheVariants.{Group}
 use Rattle.writer.specs.Decoration.{passed, sound}
 use Rattle.writer.specs.Shown.{Lexed}
 use Rattle.writer.proofs.Decorations.{sound_good, sound_bad, sound_end, end_none, end_some, passed_open, passed_deep, passed_close, passed_none, passed_marker, passed_word, passed_other}

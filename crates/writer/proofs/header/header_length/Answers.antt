@@ -1,4 +1,4 @@
-use Rattle.std.proofs.Common.{◌≡◌, ◌+◌, length, decimal, sym, ap, ◌∙◌, arith}
+use Rattle.std.proofs.Common.{◌≡◌, ◌+◌, length, decimal, sym, ap, ◌∙◌}
 use Rattle.writer.specs.Header.{mark_of, start_of}
 use Rattle.writer.proofs.Headers.{header_long}
 use Rattle.writer.proofs.header.header_length.Goals as goal

@@ -1,4 +1,4 @@
-use Rattle.std.proofs.Common.{◌≡◌, ◌+◌, ◌++◌, length, codes, decimal, sym, ap, ◌∙◌, arith}
+use Rattle.std.proofs.Common.{◌++◌, length, codes, decimal, ap, ◌∙◌, arith}
 use Rattle.writer.specs.Header.{mark_of, start_of}
 use Rattle.writer.proofs.Appends.{five_parts}
 use Rattle.writer.proofs.Headers.{header_long}

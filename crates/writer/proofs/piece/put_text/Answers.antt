@@ -1,8 +1,7 @@
-use Rattle.std.proofs.Common.{◌≡◌, IsUtf8, sym, refl, ap, ◌∙◌, subst, rules}
+use Rattle.std.proofs.Common.{IsUtf8, sym, refl, ap, ◌∙◌, subst, rules}
 use Rattle.std.specs.Str.{chars}
 use Rattle.std.proofs.lemmas.Str.{encodes-chars}
 use Rattle.sinks.specs.Puts.{PutAll}
-use Rattle.writer.specs.Spelling.{onward, at_end}
 use Rattle.writer.proofs.Puts.{walked_more, walked_all}
 use Rattle.writer.proofs.piece.put_text.Goals as goal
 

@@ -1,4 +1,4 @@
-use Rattle.std.proofs.Common.{◌≡◌, ◌<◌, ◌≤◌, Some, IsUtf8, sym, refl, ap, ◌∙◌, subst, lt_of_lt_of_le, arith, rules}
+use Rattle.std.proofs.Common.{◌<◌, ◌≤◌, Some, IsUtf8, sym, ap, ◌∙◌, subst, lt_of_lt_of_le, arith, rules}
 use Rattle.std.specs.Str.{chars}
 use Rattle.std.proofs.lemmas.Str.{encodes-chars}
 use Rattle.writer.proofs.Puts.{within_most, beyond_most, counted_more, counted_all, counted_within}

@@ -1,4 +1,4 @@
-use Rattle.std.proofs.Common.{◌≡◌, sym, refl, ◌∙◌, arith}
+use Rattle.std.proofs.Common.{sym, refl, ◌∙◌, arith}
 use Rattle.std.proofs.lemmas.Bool.{ltb-true}
 use Rattle.reader.proofs.Guards.{holds_short, holds_fit, pushed_zeros, put_whole}
 use Rattle.reader.proofs.guard.Guard.push.Goals as goal

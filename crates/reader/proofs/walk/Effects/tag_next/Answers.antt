@@ -1,7 +1,7 @@
-use Rattle.std.proofs.Common.{◌≡◌, ◌&&◌, sym, refl, ap, ◌∙◌, arith}
+use Rattle.std.proofs.Common.{◌&&◌, sym, ap, ◌∙◌, arith}
 use Rattle.std.proofs.lemmas.Bool.{and_left, and_right}
 use Rattle.tokens.specs.Shown.{shown}
-use Rattle.reader.specs.Rules.{tag_next, is_star}
+use Rattle.reader.specs.Rules.{tag_next}
 use Rattle.reader.specs.Walk.{rest}
 use Rattle.reader.specs.Words.{is_htmltag}
 use Rattle.reader.proofs.Walks.{ended_tag, tag_good}

@@ -1,4 +1,4 @@
-use Rattle.std.proofs.Common.{◌≡◌, ◌<◌, ◌≤◌, get_or, refl, arith, length-set}
+use Rattle.std.proofs.Common.{◌<◌, ◌≤◌, get_or, refl, arith, length-set}
 use Rattle.sinks.proofs.Piles.{none, dealt_add, dealt_begin, room_none, room_last, room_some, room_add, room_begin, filled_add, filled_begin}
 use Rattle.sinks.proofs.cards.CardSinkSink.put.Goals as goal
 

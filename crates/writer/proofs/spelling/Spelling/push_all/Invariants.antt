@@ -1,4 +1,4 @@
-use Rattle.std.proofs.Common.{◌≡◌, ◌+◌, ◌≤◌, ◌++◌, length, take}
+use Rattle.std.proofs.Common.{◌≡◌, ◌+◌, ◌++◌, take}
 use Rattle.writer.specs.Shown.{shown}
 use Rattle.writer.proofs.spelling.Spelling.push_all.Given as goal
 
