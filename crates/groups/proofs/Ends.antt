@@ -1,6 +1,6 @@
 -- Where a walk ends: the bytes after the closing brace do not matter to it, and a fault lies within the bytes.
 use Rattle.std.proofs.Common.{◌≡◌, ℕ, zero, suc, ◌+◌, ◌-◌, ◌≤◌, true, eqb, ltb, List, [], ◌∷◌, ◌++◌, length, Ok, Err, Result, sym, refl, ap, ◌∙◌, arith}
-use Rattle.std.specs.List.{AllByRecursion as All}
+use Rattle.std.specs.List.{AllByRecursion}
 use Rattle.std.proofs.lemmas.Bool.{cond-true, cond-false, cond_both}
 use Rattle.tokens.specs.Tokens.{Tok, opens, closes, word, hex, symbol, text, Front, layout, fault, token, Item, front, items_by, items}
 use Rattle.tokens.proofs.Fronts.{stops_close, front_local, front_layout, front_close}
@@ -104,16 +104,16 @@ Within m (Ok n) = Unit {0}
 Within m (Err f) = place_of f ≤ m
 
 module _ (m : ℕ) where
-  innermost_within : (gs : List ℕ) → All (λ p. p ≤ m) gs → innermost gs ≤ m
+  innermost_within : (gs : List ℕ) → AllByRecursion (λ p. p ≤ m) gs → innermost gs ≤ m
   innermost_within [] a = omega arith
   innermost_within (p ∷ gs) a = a.0
 
-  below_within : (gs : List ℕ) → All (λ p. p ≤ m) gs → All (λ p. p ≤ m) (below gs)
+  below_within : (gs : List ℕ) → AllByRecursion (λ p. p ≤ m) gs → AllByRecursion (λ p. p ≤ m) (below gs)
   below_within [] a = tt
   below_within (p ∷ gs) a = a.1
 
-  module _ (at : ℕ) (here : at ≤ m) (on : List ℕ → Result ℕ GroupFault) (then : (hs : List ℕ) → All (λ p. p ≤ m) hs → Within m (on hs)) where
-    turn_within : (t : Tok) (e : ℕ) (gs : List ℕ) → All (λ p. p ≤ m) gs → Within m (turn t at e gs on)
+  module _ (at : ℕ) (here : at ≤ m) (on : List ℕ → Result ℕ GroupFault) (then : (hs : List ℕ) → AllByRecursion (λ p. p ≤ m) hs → Within m (on hs)) where
+    turn_within : (t : Tok) (e : ℕ) (gs : List ℕ) → AllByRecursion (λ p. p ≤ m) gs → Within m (turn t at e gs on)
     turn_within opens e gs a = cond_both (ltb (length gs) 64) _ _ (Within m) (λ _. then (at ∷ gs) (here, a)) (λ _. here)
     turn_within closes e gs a = cond_both (eqb (length (below gs)) 0) _ _ (Within m) (λ _. tt) (λ _. then (below gs) (below_within gs a))
     turn_within (word name v) e gs a = then gs a
@@ -121,13 +121,13 @@ module _ (m : ℕ) where
     turn_within (symbol x) e gs a = then gs a
     turn_within (text x) e gs a = then gs a
 
-  front_within : (at : ℕ) (x : Front) (rest : ℕ → List Item) → at ≤ m → ((k : ℕ) (hs : List ℕ) → All (λ p. p ≤ m) hs → Within m (closing hs (rest k))) → (gs : List ℕ) → All (λ p. p ≤ m) gs → Within m (closing gs (items_by at x rest))
+  front_within : (at : ℕ) (x : Front) (rest : ℕ → List Item) → at ≤ m → ((k : ℕ) (hs : List ℕ) → AllByRecursion (λ p. p ≤ m) hs → Within m (closing hs (rest k))) → (gs : List ℕ) → AllByRecursion (λ p. p ≤ m) gs → Within m (closing gs (items_by at x rest))
   front_within at layout rest here then gs a = then 0 gs a
   front_within at (fault f) rest here then gs a = here
   front_within at (token t n) rest here then gs a = turn_within at here (λ hs. closing hs (rest (n - 1))) (then (n - 1)) t (at + n) gs a
 
   -- A fault of a walk lies at a group that was open, or within the bytes.
-  pub closing_within : (k at : ℕ) (gs bs : List ℕ) → at + length bs ≤ m → All (λ p. p ≤ m) gs → Within m (closing gs (items k at bs))
+  pub closing_within : (k at : ℕ) (gs bs : List ℕ) → at + length bs ≤ m → AllByRecursion (λ p. p ≤ m) gs → Within m (closing gs (items k at bs))
   closing_within zero at gs [] h a = innermost_within gs a
   closing_within (suc k) at gs [] h a = innermost_within gs a
   closing_within (suc k) at gs (b ∷ bs) h a = closing_within k (at + 1) gs bs (omega arith) a

@@ -1,6 +1,6 @@
 -- The content, one effect at a time.
 use Rattle.std.proofs.Common.{◌≡◌, ℕ, ◌+◌, ◌<◌, ◌≤◌, false, List, [], ◌∷◌, ◌++◌, length, is_some, Some, None, Ok, Err, Option, Result, sym, refl, ap, ◌∙◌, append_assoc, append-nil, arith, length-append}
-use Rattle.std.specs.List.{AllByRecursion as All}
+use Rattle.std.specs.List.{AllByRecursion}
 use Rattle.std.proofs.lemmas.Bool.{true≢false}
 use Rattle.records.specs.declared.faults.RecordFault.{RecordFault}
 use Rattle.records.specs.declared.faults.RecordFault.TheVariants.{LoneHalf}
@@ -45,14 +45,14 @@ before_none (Err f) = refl
 
 -- ASCII bytes are their own characters
 module _ (decoded : ℕ → Option ℕ) (ascii : (b : ℕ) → b < 128 → decoded b ≡ Some b) where
-  bytes_made : (p : ℕ) (bs : List ℕ) (xs : List (Effect × ℕ)) → All (λ b. b < 128) bs → characters decoded None (as_bytes p bs ++ xs) ≡ before bs (characters decoded None xs)
+  bytes_made : (p : ℕ) (bs : List ℕ) (xs : List (Effect × ℕ)) → AllByRecursion (λ b. b < 128) bs → characters decoded None (as_bytes p bs ++ xs) ≡ before bs (characters decoded None xs)
   bytes_made p [] xs h = before_none (characters decoded None xs)
   bytes_made p (b ∷ bs) xs h =
       ap (λ o. onward (read o p) (λ w. characters decoded w (as_bytes (p + 1) bs ++ xs))) (ascii b h.0)
       ∙ ap (before (b ∷ [])) (bytes_made (p + 1) bs xs h.1)
       ∙ before_more (b ∷ []) bs (characters decoded None xs)
 
-  pub text_more : (done : List ℕ) (w : Option Half) (p : ℕ) (bs : List ℕ) (all xs : List (Effect × ℕ)) → w ≡ None → All (λ b. b < 128) bs → all ≡ as_bytes p bs ++ xs → before done (characters decoded w all) ≡ before (done ++ bs) (characters decoded w xs)
+  pub text_more : (done : List ℕ) (w : Option Half) (p : ℕ) (bs : List ℕ) (all xs : List (Effect × ℕ)) → w ≡ None → AllByRecursion (λ b. b < 128) bs → all ≡ as_bytes p bs ++ xs → before done (characters decoded w all) ≡ before (done ++ bs) (characters decoded w xs)
   text_more done w p bs all xs none h e =
       ap (λ l. before done (characters decoded w l)) e
       ∙ ap (λ w. before done (characters decoded w (as_bytes p bs ++ xs))) none

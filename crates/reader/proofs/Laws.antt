@@ -2,7 +2,7 @@
 use Rattle.std.proofs.Common.{◌≡◌, ℕ, zero, suc, ◌+◌, ◌-◌, ◌<◌, ◌≤◌, Bool, true, false, cond, not, ◌&&◌, ◌||◌, eqb, ltb, leb, List, [], ◌∷◌, ◌++◌, map, length, take, drop, ℤ, pos, negsuc, Some, None, Ok, Err, codes, IsUtf8, Option, Result, sym, refl, ap, ◌∙◌, subst, ⊎_elim, append-nil, arith, length-append}
 use lib.ListN.{length-map}
 use lib.Utf8.{scalar, scalars, encodes, low_scalar}
-use Rattle.std.specs.List.{AllByRecursion as All}
+use Rattle.std.specs.List.{AllByRecursion}
 use Rattle.std.specs.Str.{bytes_eq}
 use Rattle.std.proofs.lemmas.List.{take_at, drop_at, take_all}
 use Rattle.std.proofs.lemmas.Bool.{cond-true, cond_both, and_parts, and_from, and_cases, or_cases, leb-true, leb-false, eqb-true, le-leb, lt-ltb}
@@ -47,7 +47,7 @@ FairOption None = Unit {0}
 FairOption (Some x) = Fair x
 
 abbrev FairEffects : List (Effect × ℕ) → Type 0
-FairEffects xs = All (λ x. Fair x.0) xs
+FairEffects xs = AllByRecursion (λ x. Fair x.0) xs
 
 high_scalar : (c : ℕ) → 57344 ≤ c → c < 1114112 → scalar c ≡ true
 high_scalar c h l = cond_both (ltb c 55296) true _ (λ x. x ≡ true) (λ _. refl) (λ _. and_from _ _ (le-leb 57344 c h) (lt-ltb c 1114112 l))
@@ -262,12 +262,12 @@ always_utf8 decoded scalar-page page room bytes k content e =
 
 -- Trailing bytes change nothing.
 
-trailing_passes : (p : ℕ) (bs : List ℕ) → All (λ b. may_trail b ≡ true) bs → trailing p bs ≡ Ok tt
+trailing_passes : (p : ℕ) (bs : List ℕ) → AllByRecursion (λ b. may_trail b ≡ true) bs → trailing p bs ≡ Ok tt
 trailing_passes p [] a = refl
 trailing_passes p (b ∷ bs) a = cond-true _ _ _ a.0 ∙ trailing_passes (p + 1) bs a.1
 
 -- the sound record of a record with such bytes after it is the record
-sound_trailed : (r tail : List ℕ) → IsRecord r → All (λ b. may_trail b ≡ true) tail → length (r ++ tail) ≤ 32768 → sound_record (r ++ tail) ≡ Ok r
+sound_trailed : (r tail : List ℕ) → IsRecord r → AllByRecursion (λ b. may_trail b ≡ true) tail → length (r ++ tail) ≤ 32768 → sound_record (r ++ tail) ≡ Ok r
 sound_trailed r tail e a h =
     let whole : take (length r) r ≡ r = take_all (length r) r (omega arith) in
     let ends : first_end (r ++ tail) ≡ Ok (length r) = ap (λ l. first_end (l ++ tail)) (sym whole) ∙ first_alone r (length r) e tail ∙ ap (λ l. Ok (length l)) whole in
@@ -528,17 +528,17 @@ module _ (later : Later) (end : List (Effect × ℕ)) where
       (λ _. ap (λ r. added r.effect p (later (r.state ∷ hs) r.skip)) (cond-true h.silent (still h) _ q) ∙ then 0)
 
   module _ (s : ReadingState) (ss : List ReadingState) (quiet : s.silent ≡ true) where
-    other_silent : (k : Kind) (t : Tok) (p : ℕ) (next : Bool) (hs : List ReadingState) (skip : ℕ) → All (λ h. h.silent ≡ true) hs → ((n : ℕ) → later (hs ++ s ∷ ss) n ≡ end) → other k t p next (hs ++ s ∷ ss) skip later ≡ end
+    other_silent : (k : Kind) (t : Tok) (p : ℕ) (next : Bool) (hs : List ReadingState) (skip : ℕ) → AllByRecursion (λ h. h.silent ≡ true) hs → ((n : ℕ) → later (hs ++ s ∷ ss) n ≡ end) → other k t p next (hs ++ s ∷ ss) skip later ≡ end
     other_silent k t p next [] skip a then = one_silent k t p next s ss skip quiet then
     other_silent k t p next (h ∷ hs) skip a then = one_silent k t p next h (hs ++ s ∷ ss) skip a.0 then
 
     -- a group that opens within is silent too
-    opened_silent : (m p : ℕ) (hs : List ReadingState) → length (hs ++ s ∷ ss) < m → All (λ h. h.silent ≡ true) hs → ((h : ReadingState) → h.silent ≡ true → later (h ∷ (hs ++ s ∷ ss)) 0 ≡ end) → opened m p (hs ++ s ∷ ss) later ≡ end
+    opened_silent : (m p : ℕ) (hs : List ReadingState) → length (hs ++ s ∷ ss) < m → AllByRecursion (λ h. h.silent ≡ true) hs → ((h : ReadingState) → h.silent ≡ true → later (h ∷ (hs ++ s ∷ ss)) 0 ≡ end) → opened m p (hs ++ s ∷ ss) later ≡ end
     opened_silent m p [] room a then = cond-true _ _ _ (lt-ltb _ m room) ∙ then (inside p s) quiet
     opened_silent m p (h ∷ hs) room a then = cond-true _ _ _ (lt-ltb _ m room) ∙ then (inside p h) a.0
 
 module _ (m room : ℕ) (k : Kind) (s : ReadingState) (ss : List ReadingState) (p e : ℕ) (rest : List Item) (quiet : s.silent ≡ true) (enough : length (s ∷ ss) + room ≤ m) where
-  silent_walk : (hs : List ReadingState) (skip : ℕ) (is : List Item) → All (λ h. h.silent ≡ true) hs → Balanced room (length hs) is → effects m k (hs ++ s ∷ ss) skip (is ++ good closes p e ∷ rest) ≡ effects m k ss 0 rest
+  silent_walk : (hs : List ReadingState) (skip : ℕ) (is : List Item) → AllByRecursion (λ h. h.silent ≡ true) hs → Balanced room (length hs) is → effects m k (hs ++ s ∷ ss) skip (is ++ good closes p e ∷ rest) ≡ effects m k ss 0 rest
   silent_walk [] skip [] a b = refl
   silent_walk (h ∷ hs) skip [] a b = absurd (omega arith)
   silent_walk hs skip (bad f ∷ is) a b = absurd b

@@ -1,6 +1,6 @@
 -- What tokens add to the content.
 use Rattle.std.proofs.Common.{◌≡◌, ℕ, ◌+◌, ◌<◌, ◌≤◌, Bool, true, false, cond, not, ◌&&◌, eqb, ltb, List, [], ◌∷◌, ◌++◌, length, ℤ, pos, Some, None, Ok, Err, codes, Option, Result, sym, refl, ap, ◌∙◌, arith, length-append}
-use Rattle.std.specs.List.{AllByRecursion as All}
+use Rattle.std.specs.List.{AllByRecursion}
 use Rattle.std.proofs.lemmas.List.{append_assoc}
 use Rattle.std.proofs.lemmas.Bool.{cond_both, cond-true, cond-false, and_left, and_right, and_from, not_from_false, lt-ltb}
 use Rattle.tokens.specs.Tokens.{Tok, opens, closes, word, hex, symbol, text, Item, good}
@@ -194,17 +194,17 @@ module _ (decoded : ℕ → Option ℕ) (k : Kind) (ss : List ReadingState) wher
 -- Tokens that keep the state of every quiet group have no effect in one.
 module _ (k : Kind) (Quiet : ReadingState → Type 0) (Idle : Tok → Type 0) (copies : (p : ℕ) (h : ReadingState) → Quiet h → Quiet (inside p h))
     (keeps : (h : ReadingState) (t : Tok) (next : Bool) → Quiet h → Idle t → turn_of k h t next ≡ still h) (s : ReadingState) (ss : List ReadingState) (quiet : Quiet s) where
-  idle_one : (t : Tok) → Inner t → Idle t → (hs : List ReadingState) → All Quiet hs → (p e : ℕ) (is : List Item) → effects 64 k (hs ++ s ∷ ss) 0 (good t p e ∷ is) ≡ effects 64 k (hs ++ s ∷ ss) 0 is
+  idle_one : (t : Tok) → Inner t → Idle t → (hs : List ReadingState) → AllByRecursion Quiet hs → (p e : ℕ) (is : List Item) → effects 64 k (hs ++ s ∷ ss) 0 (good t p e ∷ is) ≡ effects 64 k (hs ++ s ∷ ss) 0 is
   idle_one t i d [] a p e is = by_turn k t i s ss p e is (still s) (keeps s t (tag_next is) quiet d)
   idle_one t i d (h ∷ hs) a p e is = by_turn k t i h (hs ++ s ∷ ss) p e is (still h) (keeps h t (tag_next is) a.0 d)
 
   -- a group that opens within is quiet too
-  idle_deeper : (hs : List ReadingState) → All Quiet hs → length (hs ++ s ∷ ss) < 64 → (p e : ℕ) (is : List Item) (end : List (Effect × ℕ)) → ((h : ReadingState) → Quiet h → effects 64 k (h ∷ (hs ++ s ∷ ss)) 0 is ≡ end) → effects 64 k (hs ++ s ∷ ss) 0 (good opens p e ∷ is) ≡ end
+  idle_deeper : (hs : List ReadingState) → AllByRecursion Quiet hs → length (hs ++ s ∷ ss) < 64 → (p e : ℕ) (is : List Item) (end : List (Effect × ℕ)) → ((h : ReadingState) → Quiet h → effects 64 k (h ∷ (hs ++ s ∷ ss)) 0 is ≡ end) → effects 64 k (hs ++ s ∷ ss) 0 (good opens p e ∷ is) ≡ end
   idle_deeper [] a short p e is end then = cond-true _ _ _ (lt-ltb _ 64 short) ∙ then (inside p s) (copies p s quiet)
   idle_deeper (h ∷ hs) a short p e is end then = cond-true _ _ _ (lt-ltb _ 64 short) ∙ then (inside p h) (copies p h a.0)
 
   module _ (room : ℕ) (enough : length (s ∷ ss) + room ≤ 64) (rest : List Item) where
-    idle_walk : (hs : List ReadingState) (at : ℕ) (ts : List (Tok × ℕ)) → All Quiet hs → Level room (length hs) ts → All (λ x. Idle x.0) ts → effects 64 k (hs ++ s ∷ ss) 0 (placed at ts ++ rest) ≡ effects 64 k (s ∷ ss) 0 rest
+    idle_walk : (hs : List ReadingState) (at : ℕ) (ts : List (Tok × ℕ)) → AllByRecursion Quiet hs → Level room (length hs) ts → AllByRecursion (λ x. Idle x.0) ts → effects 64 k (hs ++ s ∷ ss) 0 (placed at ts ++ rest) ≡ effects 64 k (s ∷ ss) 0 rest
     idle_walk [] at [] a l d = refl
     idle_walk (h ∷ hs) at [] a l d = absurd (omega arith)
     idle_walk hs at ((opens, n) ∷ ts) a l d =
@@ -216,7 +216,7 @@ module _ (k : Kind) (Quiet : ReadingState → Type 0) (Idle : Tok → Type 0) (c
     idle_walk hs at ((symbol b, n) ∷ ts) a l d = idle_one (symbol b) tt d.0 hs a at (at + n) (placed (at + n) ts ++ rest) ∙ idle_walk hs (at + n) ts a l d.1
     idle_walk hs at ((text b, n) ∷ ts) a l d = idle_one (text b) tt d.0 hs a at (at + n) (placed (at + n) ts ++ rest) ∙ idle_walk hs (at + n) ts a l d.1
 
-any_tokens : (ts : List (Tok × ℕ)) → All (λ _. Unit {0}) ts
+any_tokens : (ts : List (Tok × ℕ)) → AllByRecursion (λ _. Unit {0}) ts
 any_tokens [] = tt
 any_tokens (x ∷ ts) = (tt, any_tokens ts)
 
@@ -233,7 +233,7 @@ suppressed_turn h t next q e =
     (λ _. cond-true (h.suppressed && not (is_htmlrtf (means t))) (still h) _ (and_from _ _ q (not_from_false _ e)))
 
 -- In HTML, level tokens say nothing in a suppressed group, if no word among them is \htmlrtf.
-pub says_suppressed : (decoded : ℕ → Option ℕ) (ss : List ReadingState) (s : ReadingState) (room : ℕ) (ts : List (Tok × ℕ)) → Level room 0 ts → length (s ∷ ss) + room ≤ 64 → s.suppressed ≡ true → All (λ x. is_htmlrtf (means x.0) ≡ false) ts → Says decoded Html s ss ts []
+pub says_suppressed : (decoded : ℕ → Option ℕ) (ss : List ReadingState) (s : ReadingState) (room : ℕ) (ts : List (Tok × ℕ)) → Level room 0 ts → length (s ∷ ss) + room ≤ 64 → s.suppressed ≡ true → AllByRecursion (λ x. is_htmlrtf (means x.0) ≡ false) ts → Says decoded Html s ss ts []
 says_suppressed decoded ss s room ts level enough quiet plain =
     leads_nothing decoded Html ss s s ts
     (λ at rest. idle_walk Html (λ h. h.suppressed ≡ true) (λ t. is_htmlrtf (means t) ≡ false) (λ p h q. q) suppressed_turn s ss quiet room enough rest [] at ts tt level plain)
@@ -279,7 +279,7 @@ module _ (decoded : ℕ → Option ℕ) (ss : List ReadingState) (s : ReadingSta
       ∙ (λ i. still (record { opens = s.opens; silent = s.silent; tag = s.tag; suppressed = sym h.shown i; fallback = s.fallback })))
 
   -- Level tokens between \htmlrtf and \htmlrtf0 say nothing, if no word among them is \htmlrtf.
-  pub says_dressed : (m n room : ℕ) (ts : List (Tok × ℕ)) → Level room 0 ts → length (s ∷ ss) + room ≤ 64 → All (λ x. is_htmlrtf (means x.0) ≡ false) ts →
+  pub says_dressed : (m n room : ℕ) (ts : List (Tok × ℕ)) → Level room 0 ts → length (s ∷ ss) + room ≤ 64 → AllByRecursion (λ x. is_htmlrtf (means x.0) ≡ false) ts →
       Says decoded Html s ss ((word (codes "htmlrtf") None, m) ∷ (ts ++ (word (codes "htmlrtf") (Some (pos 0)), n) ∷ [])) []
   says_dressed m n room ts level enough plain =
       leads_append decoded Html ss s (suppress true s) s ((word (codes "htmlrtf") None, m) ∷ []) (ts ++ (word (codes "htmlrtf") (Some (pos 0)), n) ∷ []) [] [] (leads_off m)

@@ -1,7 +1,7 @@
 -- What holds of every reading, in terms of bytes and tokens.
 use Rattle.std.specs.Prelude.{◌≡◌, ℕ, zero, suc, ◌+◌, ◌<◌, ◌≤◌, true, List, [], ◌∷◌, ◌++◌, map, length, Some, None, Ok, IsUtf8, Option}
 use Rattle.std.proofs.Math.Utf8.{scalar}
-use Rattle.std.specs.List.{AllByRecursion as All}
+use Rattle.std.specs.List.{AllByRecursion}
 use Rattle.tokens.specs.Tokens.{Tok, opens, closes, word, hex, symbol, text, Item, good, bad, items}
 use Rattle.records.specs.Laws.{IsRecord}
 use Rattle.records.specs.declared.kinds.Kind.{Kind}
@@ -19,7 +19,7 @@ AlwaysUtf8 = (decoded : ℕ → Option ℕ) → ScalarPage decoded → (page roo
 
 -- CR, LF and NUL after a record do not change its reading, as long as they are not too many.
 abbrev pub TrailingChangesNothing : Type 0
-TrailingChangesNothing = (page : ℕ) (decoded : ℕ → Option ℕ) (room : ℕ) (r tail : List ℕ) → IsRecord r → All (λ b. may_trail b ≡ true) tail → length (r ++ tail) ≤ 32768 → read_of page decoded room (r ++ tail) ≡ read_of page decoded room r
+TrailingChangesNothing = (page : ℕ) (decoded : ℕ → Option ℕ) (room : ℕ) (r tail : List ℕ) → IsRecord r → AllByRecursion (λ b. may_trail b ≡ true) tail → length (r ++ tail) ≤ 32768 → read_of page decoded room (r ++ tail) ≡ read_of page decoded room r
 
 -- The token of an item, without its places; a fault has none.
 abbrev pub token_of : Item → Option Tok

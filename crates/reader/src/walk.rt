@@ -1,7 +1,7 @@
 // The walk through a record, from token to token, that gives the effects one by one.
 ghost use Rattle.std.specs.Prelude.{◌≡◌, ℕ, ◌<◌, ◌≤◌, ◌&&◌, [], ◌∷◌, ◌++◌, length, drop, IfSome as found, Some as Found1};
 ghost use Rattle.std.specs.Option.{option_map};
-ghost use Rattle.std.specs.List.{AllByRecursion as All};
+ghost use Rattle.std.specs.List.{AllByRecursion};
 ghost use Rattle.tokens.specs.Shown.{shown as shown_token};
 ghost use Rattle.tokens.specs.Tokens.{items, next as next_item, good};
 ghost use Rattle.reader.specs.Rules.{effects, outermost, added, opened, other as other_of, tag_next, is_star};
@@ -130,7 +130,7 @@ impl<'r, 's> Effects<'r, 's> {
     pub fn text(&mut self) -> &'r [u8]
         ensures run { result.now ≡ text_run self.old }
         ensures value { to_come self.old ≡ as_bytes self.old.at result.now ++ to_come self.new }
-        ensures ascii { All (λ b. b < 128) result.now }
+        ensures ascii { AllByRecursion (λ b. b < 128) result.now }
     {
         let from = self.at;
         if from >= self.bytes.len() || !self.is_in_text() {

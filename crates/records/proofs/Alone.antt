@@ -1,6 +1,6 @@
 -- A record stands alone: what follows its closing brace changes neither the record nor its end.
 use Rattle.std.proofs.Common.{◌≡◌, ℕ, ◌+◌, ◌<◌, ◌≤◌, true, false, ◌&&◌, eqb, List, [], ◌∷◌, ◌++◌, length, take, drop, Ok, Err, codes, Result, sym, refl, ap, ◌∙◌, append_assoc, arith, length-append}
-use Rattle.std.specs.List.{AllByRecursion as All}
+use Rattle.std.specs.List.{AllByRecursion}
 use Rattle.std.specs.Str.{bytes_eq}
 use Rattle.std.proofs.lemmas.List.{take-append-le, drop-append-le, take_all, take_at}
 use Rattle.std.proofs.lemmas.Bool.{cond-true, cond_both, and_parts, both_ways}
@@ -23,7 +23,7 @@ pub record Whole (bs : List ℕ) (n : ℕ) : Type 0 where
   pub again : (vs : List ℕ) → first_end (before ++ 125 ∷ vs) ≡ Ok n
 
 -- bytes that begin with a signature without the byte 125 have it before their first 125
-signed_long : (sig w us : List ℕ) → All (λ s. eqb 125 s ≡ false) sig → bytes_eq (take (length sig) (w ++ 125 ∷ us)) sig ≡ true → length sig ≤ length w
+signed_long : (sig w us : List ℕ) → AllByRecursion (λ s. eqb 125 s ≡ false) sig → bytes_eq (take (length sig) (w ++ 125 ∷ us)) sig ≡ true → length sig ≤ length w
 signed_long [] w us a e = omega arith
 signed_long (s ∷ sig) [] us a e = absurd (both_ways _ a.0 (and_parts (eqb 125 s) _ e).0)
 signed_long (s ∷ sig) (x ∷ w) us a e = omega (arith, signed_long sig w us a.1 (and_parts (eqb x s) _ e).1)

@@ -1,6 +1,6 @@
 -- An archive taken apart, step by step and as a whole.
 use Rattle.std.proofs.Common.{◌≡◌, ℕ, zero, suc, ◌+◌, ◌-◌, ◌<◌, ◌≤◌, List, [], ◌∷◌, ◌++◌, length, get_or, take, drop, Ok, Err, Result, sym, refl, ap, ◌∙◌, subst, add-zero, arith, length-drop}
-use Rattle.std.specs.List.{flat_map, AllByRecursion as All}
+use Rattle.std.specs.List.{flat_map, AllByRecursion}
 use Rattle.std.proofs.lemmas.List.{drop_more, drop-drop, drop_at, take_at, take-append-drop, length-take-le}
 use Rattle.std.proofs.lemmas.Bool.{cond_both}
 use Rattle.groups.specs.declared.faults.GroupFault.{GroupFault}
@@ -72,7 +72,7 @@ record_first at r more e =
     ∙ ap (λ l. record' at l (series 0 (at + length r) (drop (length r) (r ++ more)))) (take_at r more (length r) refl)
     ∙ ap (λ l. record' at r (series 0 (at + length r) l)) (drop_at r more (length r) refl)
 
-chained : (rs : List (List ℕ)) → All IsRecord rs → (at : ℕ) → series 0 at (flat_map (λ r. r) rs) ≡ chain at rs
+chained : (rs : List (List ℕ)) → AllByRecursion IsRecord rs → (at : ℕ) → series 0 at (flat_map (λ r. r) rs) ≡ chain at rs
 chained [] all at = refl
 chained (r ∷ rs) all at = record_first at r (flat_map (λ r. r) rs) all.0 ∙ ap (record' at r) (chained rs all.1 (at + length r))
 

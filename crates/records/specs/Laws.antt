@@ -1,6 +1,6 @@
 -- What it means that an archive comes apart, in terms of the bytes alone.
 use Rattle.std.specs.Prelude.{◌≡◌, ℕ, ◌+◌, List, [], ◌∷◌, ◌++◌, length, Ok, Err}
-use Rattle.std.specs.List.{flat_map, AllByRecursion as All}
+use Rattle.std.specs.List.{flat_map, AllByRecursion}
 use Rattle.records.specs.Apart.{first_end, Series, record', refused, ended, series}
 
 -- The bytes at a place come apart so: each record is what taking apart gives of the bytes from its place on,
@@ -21,4 +21,4 @@ chain at (r ∷ rs) = record' at r (chain (at + length r) rs)
 
 -- Records put one after another come apart into themselves.
 abbrev pub ComeBack : List ℕ → Type 0
-ComeBack archive = (rs : List (List ℕ)) → All IsRecord rs → archive ≡ flat_map (λ r. r) rs → series 0 0 archive ≡ chain 0 rs
+ComeBack archive = (rs : List (List ℕ)) → AllByRecursion IsRecord rs → archive ≡ flat_map (λ r. r) rs → series 0 0 archive ≡ chain 0 rs

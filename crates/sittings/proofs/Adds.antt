@@ -1,6 +1,6 @@
 -- What a call puts into an open record: tokens that leave its group as it was, and add the characters of the piece.
 use Rattle.std.proofs.Common.{◌≡◌, ℕ, zero, suc, ◌+◌, ◌-◌, ◌≤◌, Bool, true, false, cond, eqb, ltb, leb, List, [], ◌∷◌, ◌++◌, length, drop, pos, Some, None, Ok, Err, codes, Option, Result, sym, refl, ap, ◌∙◌, add-zero, arith}
-use Rattle.std.specs.List.{AllByRecursion as All}
+use Rattle.std.specs.List.{AllByRecursion}
 use Rattle.std.specs.Str.{bytes_eq}
 use Rattle.std.proofs.lemmas.Bool.{cond_both, leb-true, ltb-true, ne_eqb, or_parts, or_from, and_parts, both_ways}
 use Rattle.tokens.specs.Tokens.{Tok, opens, closes, word, hex, symbol, text, Front, layout, fault, token, good, front, items_by, items, within}
@@ -88,7 +88,7 @@ unmarked name e =
 
 -- Every byte is printable.
 abbrev Printable : List ℕ → Type 0
-Printable bs = All (λ b. is_printable b ≡ true) bs
+Printable bs = AllByRecursion (λ b. is_printable b ≡ true) bs
 
 printable_all : (p : ℕ) (bs : List ℕ) → printable p bs ≡ Ok tt → Printable bs
 printable_all p [] = λ e. tt
@@ -109,7 +109,7 @@ record Let (k at : ℕ) (bs ps : List ℕ) : Type 0 where
   same : items k at bs ≡ placed (at + k) tokens
   whole : k + spans tokens ≡ length bs
   level : Level 63 (length ps) tokens
-  quiet : All (λ x. is_htmlrtf (means x.0) ≡ false) tokens
+  quiet : AllByRecursion (λ x. is_htmlrtf (means x.0) ≡ false) tokens
 
 -- What is refused is not let through.
 pub err_not_ok : {A : Type 0} (f : WriterFault) → ◌≡◌ {A = Result (Unit {0}) WriterFault} (Err f) (Ok tt) → A

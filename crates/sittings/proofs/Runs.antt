@@ -1,7 +1,7 @@
 -- What every call of a sitting keeps: the records are whole, and the open one may go on or be closed.
 use Rattle.std.proofs.Common.{◌≡◌, ℕ, ◌+◌, ◌-◌, ◌^◌, ◌<◌, ◌≤◌, true, cond, ltb, List, [], ◌∷◌, ◌++◌, length, Some, None, Ok, Err, Option, Result, sym, refl, ap, ◌∙◌, subst, append_assoc, append-nil, arith, length-append}
 use lib.Utf8.{scalars, encodes}
-use Rattle.std.specs.List.{flat_map, AllByRecursion as All}
+use Rattle.std.specs.List.{flat_map, AllByRecursion}
 use Rattle.std.specs.Option.{option_map}
 use Rattle.std.specs.Str.{chars as decodes}
 use Rattle.std.proofs.ByRecursion.{All-push}
@@ -103,7 +103,7 @@ module _ (page : ℕ) (decoded : ℕ → Option ℕ) where
   -- The sink holds the finished records and the open one, and each is as it should be.
   pub record Sound (s : Sitting) : Type 0 where
     pub held : s.moment.held ≡ flat_map (λ r. r.bytes) s.finished ++ bytes_of s.current
-    pub finished : All Done s.finished
+    pub finished : AllByRecursion Done s.finished
     pub current : Current s.moment.state s.moment.size s.moment.space s.current
 
 pub joined_append : (rs ss : List Script) → flat_map (λ r. r.bytes) (rs ++ ss) ≡ flat_map (λ r. r.bytes) rs ++ flat_map (λ r. r.bytes) ss

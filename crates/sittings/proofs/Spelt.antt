@@ -1,7 +1,7 @@
 -- A piece as it is spelled: it reads as its characters.
 use Rattle.std.proofs.Common.{◌≡◌, ℕ, ◌+◌, ◌-◌, ◌/◌, ◌%◌, ◌<◌, ◌≤◌, true, false, ◌&&◌, ◌||◌, eqb, ltb, leb, ◌⊎◌, List, [], ◌∷◌, ◌++◌, length, Some, None, codes, Option, sym, refl, ap, ◌∙◌, subst, inl, inr, ⊎_elim, arith}
 use lib.Utf8.{scalar, scalars}
-use Rattle.std.specs.List.{flat_map, AllByRecursion as All}
+use Rattle.std.specs.List.{flat_map, AllByRecursion}
 use Rattle.std.specs.Char.{is_ascii_alphabetic}
 use Rattle.std.specs.Fmt.{signed_decimal}
 use Rattle.std.proofs.lemmas.Bool.{cond_both, eqb-true, leb-true, ltb-true, ltb-false, ne_eqb, or_parts, or_cases, and_parts, cases_Bool}
@@ -135,12 +135,12 @@ keys_spoken : (cs : List ℕ) → flat_map spoken_key (keys cs) ≡ cs
 keys_spoken [] = refl
 keys_spoken (c ∷ cs) = press_spoken c (keys cs) ∙ ap (λ l. c ∷ l) (keys_spoken cs)
 
-press_scalar : (c : ℕ) (ks : List Key) → scalar c ≡ true → All ScalarKey ks → All ScalarKey (press c ks)
+press_scalar : (c : ℕ) (ks : List Key) → scalar c ≡ true → AllByRecursion ScalarKey ks → AllByRecursion ScalarKey (press c ks)
 press_scalar c [] s all = (s, tt)
 press_scalar c (break ∷ ks) s all = (s, all)
-press_scalar c (key d ∷ ks) s all = cond_both (eqb c 13 && eqb d 10) _ _ (All ScalarKey) (λ _. (tt, all.1)) (λ _. (s, all))
+press_scalar c (key d ∷ ks) s all = cond_both (eqb c 13 && eqb d 10) _ _ (AllByRecursion ScalarKey) (λ _. (tt, all.1)) (λ _. (s, all))
 
-keys_scalar : (cs : List ℕ) → scalars cs ≡ true → All ScalarKey (keys cs)
+keys_scalar : (cs : List ℕ) → scalars cs ≡ true → AllByRecursion ScalarKey (keys cs)
 keys_scalar [] s = tt
 keys_scalar (c ∷ cs) s = let parts = and_parts (scalar c) (scalars cs) s in press_scalar c (keys cs) parts.0 (keys_scalar cs parts.1)
 
@@ -177,7 +177,7 @@ module _ (page : ℕ) (decoded encoded : ℕ → Option ℕ) (lawful : Lawful pa
   spells_key break s = spells_break decoded
   spells_key (key c) s = spells_character c s
 
-  spells_keys : (ks : List Key) → All ScalarKey ks → Spells decoded (flat_map (spelled_key encoded) ks) (flat_map spoken_key ks)
+  spells_keys : (ks : List Key) → AllByRecursion ScalarKey ks → Spells decoded (flat_map (spelled_key encoded) ks) (flat_map spoken_key ks)
   spells_keys [] all = spells_nil decoded
   spells_keys (x ∷ ks) all = spells_append decoded _ _ _ _ (spells_key x all.0) (spells_keys ks all.1)
 

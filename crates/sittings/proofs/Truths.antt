@@ -1,6 +1,6 @@
 -- The archive does not lie: the theorem, from what every call keeps.
 use Rattle.std.proofs.Common.{◌≡◌, ℕ, ◌+◌, ◌<◌, ◌≤◌, true, false, ltb, List, [], ◌∷◌, ◌++◌, map, length, IfSome, Some, None, Ok, Err, Option, Result, sym, refl, ap, ◌∙◌, subst, append_assoc, append-nil, arith, length-append}
-use Rattle.std.specs.List.{flat_map, AllByRecursion as All}
+use Rattle.std.specs.List.{flat_map, AllByRecursion}
 use Rattle.std.specs.Option.{option_map}
 use Rattle.std.proofs.ByRecursion.{All-push, All-weaker, All-map}
 use Rattle.std.proofs.lemmas.Bool.{cond-false, le-ltb}
@@ -48,7 +48,7 @@ same_ok : {x y : ℕ} → ◌≡◌ {A = Result ℕ RecordFault} (Ok x) (Ok y) �
 same_ok e = cc
 
 -- Bytes that are records one after another are not records and then an unfinished one.
-never_both : (rs ss : List (List ℕ)) (x : List ℕ) → All IsRecord rs → All IsRecord ss → IsRecord (x ++ 125 ∷ []) → 0 < length x → flat_map (λ r. r) rs ≡ flat_map (λ r. r) ss ++ x → ⊥
+never_both : (rs ss : List (List ℕ)) (x : List ℕ) → AllByRecursion IsRecord rs → AllByRecursion IsRecord ss → IsRecord (x ++ 125 ∷ []) → 0 < length x → flat_map (λ r. r) rs ≡ flat_map (λ r. r) ss ++ x → ⊥
 never_both [] ss x a b c some e = omega (arith, ap length e, length-append (flat_map (λ r. r) ss) x)
 never_both (r ∷ rs) [] x a b c some e =
     let one = record_alone r (flat_map (λ r. r) rs ++ 125 ∷ []) a.0 in
@@ -122,7 +122,7 @@ module _ (page : ℕ) (decoded encoded : ℕ → Option ℕ) (lawful : Lawful pa
       let same : ◌≡◌ {A = Kind × List ℕ} (r.kind, r.content) (u.kind, u.content) = cc in
       ap (λ x. record { kind = x.0; content = x.1; finished = true }) same
 
-  same_entries : (rs ss : List Script) → All (Done page decoded) rs → All (Done page decoded) ss → map (λ r. r.bytes) rs ≡ map (λ r. r.bytes) ss → map (entry_of true) rs ≡ map (entry_of true) ss
+  same_entries : (rs ss : List Script) → AllByRecursion (Done page decoded) rs → AllByRecursion (Done page decoded) ss → map (λ r. r.bytes) rs ≡ map (λ r. r.bytes) ss → map (entry_of true) rs ≡ map (entry_of true) ss
   same_entries [] [] a b e = refl
   same_entries [] (s ∷ ss) a b e = never (cc)
   same_entries (r ∷ rs) [] a b e = never (cc)
@@ -131,26 +131,26 @@ module _ (page : ℕ) (decoded encoded : ℕ → Option ℕ) (lawful : Lawful pa
       let later : map (λ r. r.bytes) rs ≡ map (λ r. r.bytes) ss = cc in
       ap (λ x. x ∷ map (entry_of true) rs) (same_entry r s a.0 b.0 first) ∙ ap (λ l. entry_of true s ∷ l) (same_entries rs ss a.1 b.1 later)
 
-  all_records : (rs : List Script) → All (Done page decoded) rs → All IsRecord (map (λ r. r.bytes) rs)
+  all_records : (rs : List Script) → AllByRecursion (Done page decoded) rs → AllByRecursion IsRecord (map (λ r. r.bytes) rs)
   all_records rs a = All-map IsRecord (λ r. r.bytes) rs (All-weaker (Done page decoded) (λ r. IsRecord r.bytes) (done_record page decoded encoded lawful) rs a)
 
-  opened_done : (rs : List Script) (o : Option Script) → All (Done page decoded) rs → IfSome o (λ r. Done page decoded (grown (125 ∷ []) r)) → All (Done page decoded) (ended rs (option_map (grown (125 ∷ [])) o))
+  opened_done : (rs : List Script) (o : Option Script) → AllByRecursion (Done page decoded) rs → IfSome o (λ r. Done page decoded (grown (125 ∷ []) r)) → AllByRecursion (Done page decoded) (ended rs (option_map (grown (125 ∷ [])) o))
   opened_done rs None a d = a
   opened_done rs (Some r) a d = All-push (Done page decoded) rs (grown (125 ∷ []) r) a d
 
   -- What a sitting's bytes come apart into.
-  comes : (held : List ℕ) (rs : List Script) (o : Option Script) → held ≡ flat_map (λ r. r.bytes) rs ++ bytes_of o → All (Done page decoded) rs → IfSome o (λ r. Done page decoded (grown (125 ∷ []) r)) → series 0 0 (held ++ brace_of o) ≡ chain 0 (map (λ r. r.bytes) (ended rs (option_map (grown (125 ∷ [])) o)))
+  comes : (held : List ℕ) (rs : List Script) (o : Option Script) → held ≡ flat_map (λ r. r.bytes) rs ++ bytes_of o → AllByRecursion (Done page decoded) rs → IfSome o (λ r. Done page decoded (grown (125 ∷ []) r)) → series 0 0 (held ++ brace_of o) ≡ chain 0 (map (λ r. r.bytes) (ended rs (option_map (grown (125 ∷ [])) o)))
   comes held rs o e a d = come_back (held ++ brace_of o) (map (λ r. r.bytes) (ended rs (option_map (grown (125 ∷ [])) o))) (all_records (ended rs (option_map (grown (125 ∷ [])) o)) (opened_done rs o a d)) (closed_joined held rs o e)
 
   -- A record left open is not mistaken for finished ones.
-  not_mistaken : (held : List ℕ) (rs ss : List Script) (r : Script) → held ≡ flat_map (λ r. r.bytes) rs ++ [] → held ≡ flat_map (λ r. r.bytes) ss ++ r.bytes → All (Done page decoded) rs → All (Done page decoded) ss → Done page decoded (grown (125 ∷ []) r) → ⊥
+  not_mistaken : (held : List ℕ) (rs ss : List Script) (r : Script) → held ≡ flat_map (λ r. r.bytes) rs ++ [] → held ≡ flat_map (λ r. r.bytes) ss ++ r.bytes → AllByRecursion (Done page decoded) rs → AllByRecursion (Done page decoded) ss → Done page decoded (grown (125 ∷ []) r) → ⊥
   not_mistaken held rs ss r e f a b d =
       let one = done_record page decoded encoded lawful (grown (125 ∷ []) r) d in
       never_both (map (λ r. r.bytes) rs) (map (λ r. r.bytes) ss) r.bytes (all_records rs a) (all_records ss b) one
       (omega (arith, (first_fits (r.bytes ++ 125 ∷ []) _ one).0, length-append r.bytes (125 ∷ [])))
       (sym (joined_bytes rs) ∙ sym (append-nil (flat_map (λ r. r.bytes) rs)) ∙ sym e ∙ f ∙ ap (λ l. l ++ r.bytes) (joined_bytes ss))
 
-  distinct_by : (held : List ℕ) (rs ss : List Script) (o p : Option Script) → held ≡ flat_map (λ r. r.bytes) rs ++ bytes_of o → held ≡ flat_map (λ r. r.bytes) ss ++ bytes_of p → All (Done page decoded) rs → All (Done page decoded) ss → IfSome o (λ r. Done page decoded (grown (125 ∷ []) r)) → IfSome p (λ r. Done page decoded (grown (125 ∷ []) r)) → map (entry_of true) rs ++ open_entry o ≡ map (entry_of true) ss ++ open_entry p
+  distinct_by : (held : List ℕ) (rs ss : List Script) (o p : Option Script) → held ≡ flat_map (λ r. r.bytes) rs ++ bytes_of o → held ≡ flat_map (λ r. r.bytes) ss ++ bytes_of p → AllByRecursion (Done page decoded) rs → AllByRecursion (Done page decoded) ss → IfSome o (λ r. Done page decoded (grown (125 ∷ []) r)) → IfSome p (λ r. Done page decoded (grown (125 ∷ []) r)) → map (entry_of true) rs ++ open_entry o ≡ map (entry_of true) ss ++ open_entry p
   distinct_by held rs ss None None e f a b c d =
       let bytes = chain_same 0 _ _ (sym (comes held rs None e a c) ∙ comes held ss None f b d) in
       ap (λ l. l ++ []) (same_entries rs ss a b bytes)

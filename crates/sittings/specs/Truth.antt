@@ -1,6 +1,6 @@
 -- What holds at every moment of every sitting: the archive does not lie.
 use Rattle.std.specs.Prelude.{◌≡◌, ℕ, ◌≤◌, List, [], ◌∷◌, map, length, IfSome, Ok, Option, OnSome}
-use Rattle.std.specs.List.{AllByRecursion as All}
+use Rattle.std.specs.List.{AllByRecursion}
 use Rattle.records.specs.Apart.{series}
 use Rattle.records.specs.Laws.{chain}
 use Rattle.reader.specs.Reading.{read_of}
@@ -19,7 +19,7 @@ pub record NeverLies (page : ℕ) (decoded encoded : ℕ → Option ℕ) : Type 
   -- a sitting's writer and sink are as its calls leave them
   pub served : (space : ℕ) (asks : List Ask) → (sitting page encoded space asks).moment ≡ left page encoded (begun [] space) asks
   -- each finished record is accepted in reading, and reads as what was written
-  pub finished : (space : ℕ) (asks : List Ask) → All (Reads page decoded) (sitting page encoded space asks).finished
+  pub finished : (space : ℕ) (asks : List Ask) → AllByRecursion (Reads page decoded) (sitting page encoded space asks).finished
   -- so does the open record, closed by one brace
   pub current : (space : ℕ) (asks : List Ask) → IfSome (sitting page encoded space asks).current (λ r. Reads page decoded (grown (125 ∷ []) r))
   -- the sink's bytes, closed likewise if a record is open, come apart into exactly the records opened, in order

@@ -1,6 +1,6 @@
 -- A run of plain text: each of its bytes is a token.
 use Rattle.std.proofs.Common.{◌≡◌, ℕ, ◌+◌, ◌<◌, true, List, [], ◌∷◌, ◌++◌, take, drop, sym, refl, ap, ◌∙◌, subst, ⊎_elim, add-zero, one-add, arith}
-use Rattle.std.specs.List.{prefix_len, AllByRecursion as All}
+use Rattle.std.specs.List.{prefix_len, AllByRecursion}
 use Rattle.std.proofs.lemmas.List.{drop-drop}
 use Rattle.std.proofs.lemmas.Bool.{cond-true, cond-false, cases_Bool}
 use Rattle.std.proofs.lemmas.Bool.Decides.{nat_tests}
@@ -34,10 +34,10 @@ plain_low : (b : ℕ) → is_plain b ≡ true → b < 128
 plain_low b e = grind (arith, nat_tests)
 
 -- Every byte of a run is below 128.
-pub run_low : (bs : List ℕ) → All (λ b. b < 128) (take (prefix_len is_plain bs) bs)
+pub run_low : (bs : List ℕ) → AllByRecursion (λ b. b < 128) (take (prefix_len is_plain bs) bs)
 run_low [] = tt
 run_low (b ∷ bs) =
     ⊎_elim
-    (λ e. subst (λ n. All (λ b. b < 128) (take n (b ∷ bs))) (sym (cond-true _ (1 + prefix_len is_plain bs) 0 e ∙ one-add _)) (plain_low b e, run_low bs))
-    (λ e. subst (λ n. All (λ b. b < 128) (take n (b ∷ bs))) (sym (cond-false _ (1 + prefix_len is_plain bs) 0 e)) tt)
+    (λ e. subst (λ n. AllByRecursion (λ b. b < 128) (take n (b ∷ bs))) (sym (cond-true _ (1 + prefix_len is_plain bs) 0 e ∙ one-add _)) (plain_low b e, run_low bs))
+    (λ e. subst (λ n. AllByRecursion (λ b. b < 128) (take n (b ∷ bs))) (sym (cond-false _ (1 + prefix_len is_plain bs) 0 e)) tt)
     (cases_Bool (is_plain b))

@@ -1,5 +1,5 @@
 use Rattle.std.proofs.Common.{◌≡◌, ◌-◌, ◌<◌, cond, [], ◌++◌, take, drop, sym, refl, ap, ◌∙◌, subst, arith}
-use Rattle.std.specs.List.{prefix_len, AllByRecursion as All}
+use Rattle.std.specs.List.{prefix_len, AllByRecursion}
 use Rattle.std.proofs.lemmas.List.{at_drop_all}
 use Rattle.std.proofs.lemmas.Bool.{cond-true, cond-false, cond_both}
 use Rattle.tokens.specs.Tokens.{is_plain, items}
@@ -25,7 +25,7 @@ returns c =
           ap (effects (most s) s.kind (states s) s.skip) (items_run bytes s.at end c.text_end-end.ensures.value)
           ∙ run_taken (most s) s.kind after (states s) s.skip takes s.at (take run (drop s.at bytes))
           ∙ ap (λ k. as_bytes s.at (take k (drop s.at bytes)) ++ effects (most s) s.kind (states s) s.skip after) long;
-      ascii = subst (λ k. All (λ b. b < 128) (take k (drop s.at bytes))) long (run_low (drop s.at bytes));
+      ascii = subst (λ k. AllByRecursion (λ b. b < 128) (take k (drop s.at bytes))) long (run_low (drop s.at bytes));
     }
 
 pub returns-then-from-self : goal.returns-then-from-self
