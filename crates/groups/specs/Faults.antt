@@ -12,7 +12,7 @@ number_of (TooDeep at) = 3
 number_of (Unclosed at) = 4
 number_of (Unbalanced at) = 14
 
--- The place of the brace that opens the group.
+-- The place of the brace that opens the group, or that closes one which was not opened.
 abbrev pub place_of : GroupFault → ℕ
 place_of (Token f) = tokens.place_of f
 place_of (TooDeep at) = at

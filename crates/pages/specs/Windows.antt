@@ -3,8 +3,8 @@ use Rattle.std.specs.Prelude.{ℕ, List, [], ◌∷◌, ◌++◌, Some, None, Op
 use Rattle.pages.specs.Page.{row}
 
 -- The characters of the bytes 0x80 to 0x9F in Windows-1252.
-abbrev pub from80to9_f : List (Option ℕ)
-from80to9_f =
+abbrev pub from80to9f : List (Option ℕ)
+from80to9f =
     Some 0x20AC ∷ None ∷ Some 0x201A ∷ Some 0x0192 ∷ Some 0x201E ∷ Some 0x2026 ∷ Some 0x2020 ∷ Some 0x2021 ∷
     Some 0x02C6 ∷ Some 0x2030 ∷ Some 0x0160 ∷ Some 0x2039 ∷ Some 0x0152 ∷ None ∷ Some 0x017D ∷ None ∷
     None ∷ Some 0x2018 ∷ Some 0x2019 ∷ Some 0x201C ∷ Some 0x201D ∷ Some 0x2022 ∷ Some 0x2013 ∷ Some 0x2014 ∷
@@ -12,11 +12,11 @@ from80to9_f =
 
 -- Windows-1252: a byte below 0x80 or from 0xA0 on has the character of the same number.
 unfoldable pub chars1252 : List (Option ℕ)
-chars1252 = row 0x00 0x80 ++ (from80to9_f ++ row 0xA0 0x60)
+chars1252 = row 0x00 0x80 ++ (from80to9f ++ row 0xA0 0x60)
 
 -- The characters of the bytes 0x80 to 0xBF in Windows-1251.
-abbrev pub from80to_bf : List (Option ℕ)
-from80to_bf =
+abbrev pub from80tobf : List (Option ℕ)
+from80tobf =
     Some 0x0402 ∷ Some 0x0403 ∷ Some 0x201A ∷ Some 0x0453 ∷ Some 0x201E ∷ Some 0x2026 ∷ Some 0x2020 ∷ Some 0x2021 ∷
     Some 0x20AC ∷ Some 0x2030 ∷ Some 0x0409 ∷ Some 0x2039 ∷ Some 0x040A ∷ Some 0x040C ∷ Some 0x040B ∷ Some 0x040F ∷
     Some 0x0452 ∷ Some 0x2018 ∷ Some 0x2019 ∷ Some 0x201C ∷ Some 0x201D ∷ Some 0x2022 ∷ Some 0x2013 ∷ Some 0x2014 ∷
@@ -28,4 +28,4 @@ from80to_bf =
 
 -- Windows-1251: a byte below 0x80 has the character of the same number, and the bytes from 0xC0 on have the 64 characters from U+0410 on.
 unfoldable pub chars1251 : List (Option ℕ)
-chars1251 = row 0x00 0x80 ++ (from80to_bf ++ row 0x0410 0x40)
+chars1251 = row 0x00 0x80 ++ (from80tobf ++ row 0x0410 0x40)

@@ -23,19 +23,19 @@ pub struct Reading {
 }
 
 // Adds a piece to the content, as UTF-8.
-fn put_piece(piece: Piece, res: &mut Guard<'_>)
-    ensures value { (content : List ℕ) → Holds content res.old → Holds (content ++ encodes (characters_of piece)) res.new }
-    ensures same { res.new.bytes.ghost_name ≡ res.old.bytes.ghost_name }
-    ensures len { length res.new.bytes.now ≡ length res.old.bytes.now }
-    ensures accepted { res.new.accepted ≡ res.old.accepted }
+fn put_piece(piece: Piece, out: &mut Guard<'_>)
+    ensures value { (content : List ℕ) → Holds content out.old → Holds (content ++ encodes (characters_of piece)) out.new }
+    ensures same { out.new.bytes.ghost_name ≡ out.old.bytes.ghost_name }
+    ensures len { length out.new.bytes.now ≡ length out.old.bytes.now }
+    ensures accepted { out.new.accepted ≡ out.old.accepted }
 {
     match piece {
         Piece::Nothing => {}
         Piece::Character(character) => {
             let mut room = [0; 4];
-            res.push(character.encode_utf8(&mut room).as_bytes());
+            out.push(character.encode_utf8(&mut room).as_bytes());
         }
-        Piece::Text(text) => res.push(text.as_bytes()),
+        Piece::Text(text) => out.push(text.as_bytes()),
     }
 }
 
@@ -44,24 +44,24 @@ fn put_content<P: CodePage>(
     record: &[u8],
     kind: Kind,
     page: &P,
-    res: &mut Guard<'_>,
+    out: &mut Guard<'_>,
 ) -> Result<(), RecordFault>
-    requires { Holds [] res.old }
-    ensures value { Filled (content_of (P.CodePage.decoded page.now) kind «record».now) result res.new }
-    ensures same { res.new.bytes.ghost_name ≡ res.old.bytes.ghost_name }
-    ensures len { length res.new.bytes.now ≡ length res.old.bytes.now }
-    ensures accepted { res.new.accepted ≡ res.old.accepted }
+    requires { Holds [] out.old }
+    ensures value { Filled (content_of (P.CodePage.decoded page.now) kind «record».now) result out.new }
+    ensures same { out.new.bytes.ghost_name ≡ out.old.bytes.ghost_name }
+    ensures len { length out.new.bytes.now ≡ length out.old.bytes.now }
+    ensures accepted { out.new.accepted ≡ out.old.accepted }
 {
     let mut room = [ReadingState::outermost(); MAX_OPEN];
     let mut effects = Effects::new(record, kind, &mut room);
     let mut waiting: Option<Half> = None;
     while let Some(placed) = effects.next_effect() {
         let joined = join(page, waiting, placed.effect, placed.place)?;
-        put_piece(joined.piece, res);
+        put_piece(joined.piece, out);
         waiting = joined.waiting;
         // Plain text is its own content, since ASCII is the same in every code page.
         if waiting.is_none() {
-            res.push(effects.text());
+            out.push(effects.text());
         }
     }
     match waiting {
@@ -74,19 +74,19 @@ fn put_content<P: CodePage>(
 fn read_into<P: CodePage>(
     bytes: &[u8],
     page: &P,
-    res: &mut Guard<'_>,
+    out: &mut Guard<'_>,
 ) -> Result<Reading, RecordFault>
-    requires { Holds [] res.old }
-    ensures value { ToldInto (read_of (P.CodePage.number page.now) (P.CodePage.decoded page.now) (length res.old.bytes.now) bytes.now) result res.new }
-    ensures same { res.new.bytes.ghost_name ≡ res.old.bytes.ghost_name }
-    ensures len { length res.new.bytes.now ≡ length res.old.bytes.now }
-    ensures accepted { res.new.accepted ≡ res.old.accepted }
+    requires { Holds [] out.old }
+    ensures value { ToldInto (read_of (P.CodePage.number page.now) (P.CodePage.decoded page.now) (length out.old.bytes.now) bytes.now) result out.new }
+    ensures same { out.new.bytes.ghost_name ≡ out.old.bytes.ghost_name }
+    ensures len { length out.new.bytes.now ≡ length out.old.bytes.now }
+    ensures accepted { out.new.accepted ≡ out.old.accepted }
 {
     let record = sound_record(bytes)?;
     let kind = recognise(record)?;
     check_page(record, page.number())?;
-    put_content(record, kind, page, res)?;
-    match res.length() {
+    put_content(record, kind, page, out)?;
+    match out.length() {
         Some(length) => Ok(Reading { kind, length }),
         None => Err(RecordFault::ShortBuffer),
     }
@@ -94,10 +94,10 @@ fn read_into<P: CodePage>(
 
 // The kind and the content of the record that the bytes are, in a code page. The result then holds the content and zeros after
 // it; where the reading is refused it holds only zeros.
-pub fn read<P: CodePage>(bytes: &[u8], page: &P, res: &mut [u8]) -> Result<Reading, RecordFault>
-    ensures { Told (read_of (P.CodePage.number page.now) (P.CodePage.decoded page.now) (length res.old) bytes.now) (length res.old) result res.new }
+pub fn read<P: CodePage>(bytes: &[u8], page: &P, out: &mut [u8]) -> Result<Reading, RecordFault>
+    ensures { Told (read_of (P.CodePage.number page.now) (P.CodePage.decoded page.now) (length out.old) bytes.now) (length out.old) result out.new }
 {
-    let mut guard = Guard::new(res);
+    let mut guard = Guard::new(out);
     let reading = read_into(bytes, page, &mut guard)?;
     guard.accept();
     Ok(reading)

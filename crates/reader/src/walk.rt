@@ -1,5 +1,5 @@
 // The walk through a record, from token to token, that gives the effects one by one.
-ghost use Rattle.std.specs.Prelude.{◌≡◌, ℕ, ◌<◌, ◌≤◌, ◌&&◌, [], ◌∷◌, ◌++◌, length, drop, IfSome as found, Some as Found1};
+ghost use Rattle.std.specs.Prelude.{◌≡◌, ℕ, ◌<◌, ◌≤◌, ◌&&◌, [], ◌∷◌, ◌++◌, length, drop, IfSome, Some as Found1};
 ghost use Rattle.std.specs.Option.{option_map};
 ghost use Rattle.std.specs.List.{AllByRecursion};
 ghost use Rattle.tokens.specs.Shown.{shown as shown_token};
@@ -168,7 +168,7 @@ impl<'r, 's> Effects<'r, 's> {
 // The next token of a record that is known to be sound.
 pub fn token_at<'a>(bytes: &'a [u8], at: usize) -> Option<Found<'a>>
     ensures value { Sound result (next_item at (drop at bytes.now)) }
-    ensures bound { found result (λ f. (at ≤ f.place) × (f.place < f.end) × (f.end ≤ length bytes.now)) }
+    ensures bound { IfSome result (λ f. (at ≤ f.place) × (f.place < f.end) × (f.end ≤ length bytes.now)) }
 {
     match next_token(bytes, at) {
         Ok(found) => found,

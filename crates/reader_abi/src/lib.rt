@@ -24,10 +24,10 @@ pub struct Answer {
 
 // Reads a record. The result then holds the content and zeros after it, or only zeros.
 #[unsafe(no_mangle)]
-pub extern "C" fn fisnaok_read_1252(bytes: &[u8], res: &mut [u8]) -> Answer
-    ensures { Answered (read_of 1252 (char_of chars1252) (length res.old) bytes.now) (length res.old) result res.new }
+pub extern "C" fn fisnaok_read_1252(bytes: &[u8], out: &mut [u8]) -> Answer
+    ensures { Answered (read_of 1252 (char_of chars1252) (length out.old) bytes.now) (length out.old) result out.new }
 {
-    match read(bytes, &Windows1252, res) {
+    match read(bytes, &Windows1252, out) {
         Ok(reading) => Answer {
             refusal: 0,
             html: reading.kind.is_html(),

@@ -36,7 +36,7 @@ loop-placed-preserved-then-is_none g c =
     let text = c.text.result.now in
     let done = inv.done ++ characters_of joined.piece in
     let made : shown_joined (Ok joined) ≡ make decoded c.loop-placed.waiting (shown_effect placed.effect) placed.place = ap shown_joined (sym c.in_ok-joined.was) ∙ c.join.ensures in
-    let held : Holds (encodes done) c.put_piece.new.res = rw (encodes-append inv.done (characters_of joined.piece)) (c.put_piece.ensures.value _ inv.held) in
+    let held : Holds (encodes done) c.put_piece.new.out = rw (encodes-append inv.done (characters_of joined.piece)) (c.put_piece.ensures.value _ inv.held) in
     let low = c.text.ensures.ascii in
     record {
       done = done ++ text;

@@ -8,11 +8,11 @@ use Rattle.reader.proofs.reading.put_content.Given as goal
 -- the guard holds the characters so far, and they with those to come are the content
 pub record Inv (g : goal.Over) (l : goal.Live-loop-placed g) : Type 0 where
   pub done : List ℕ
-  pub held : Holds (encodes done) l.res
+  pub held : Holds (encodes done) l.out
   pub on : before done (characters (g.P.CodePage.decoded l.page) l.waiting (to_come l.effects)) ≡ characters (g.P.CodePage.decoded l.page) l.initial.waiting (to_come l.initial.effects)
-  pub same : l.res.bytes.ghost_name ≡ l.initial.res.bytes.ghost_name
-  pub len : length l.res.bytes.now ≡ length l.initial.res.bytes.now
-  pub accepted : l.res.accepted ≡ l.initial.res.accepted
+  pub same : l.out.bytes.ghost_name ≡ l.initial.out.bytes.ghost_name
+  pub len : length l.out.bytes.now ≡ length l.initial.out.bytes.now
+  pub accepted : l.out.accepted ≡ l.initial.out.accepted
 
 abbrev pub invariant-loop-placed : goal.invariant-loop-placed
 invariant-loop-placed g l = Inv g l

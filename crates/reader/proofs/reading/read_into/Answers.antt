@@ -35,7 +35,7 @@ returns-in-Some g c =
     let page = c.args.page.now in
     let filled = c.in_ok-put_content.ensures in
     let cs = filled.value.0 in
-    let told = told_length (encodes cs) c.put_content.new.res filled.value.2 c.in-Some.length c.in-Some.ensures in
+    let told = told_length (encodes cs) c.put_content.new.out filled.value.2 c.in-Some.length c.in-Some.ensures in
     record {
       value = (encodes cs, told_fitting (g.P.CodePage.number page) (g.P.CodePage.decoded page) _ c.args.bytes.now _ c.in_ok-record.ensures c.in_ok-kind.kind c.in_ok-kind.ensures _ (c.in_ok-check_page.ensures ∙ ap (λ n. declared n 10 (items 0 0 c.in_ok-record.record.now)) c.number.ensures) cs filled.value.1 (omega (arith, told.1, filled.len)), told.0, told.2);
       same = filled.same;
@@ -48,7 +48,7 @@ returns-in-None g c =
     let page = c.args.page.now in
     let filled = c.in_ok-put_content.ensures in
     let cs = filled.value.0 in
-    let long = told_too_long (encodes cs) c.put_content.new.res filled.value.2 c.in-None.ensures in
+    let long = told_too_long (encodes cs) c.put_content.new.out filled.value.2 c.in-None.ensures in
     record {
       value = told_short (g.P.CodePage.number page) (g.P.CodePage.decoded page) _ c.args.bytes.now _ c.in_ok-record.ensures c.in_ok-kind.kind c.in_ok-kind.ensures _ (c.in_ok-check_page.ensures ∙ ap (λ n. declared n 10 (items 0 0 c.in_ok-record.record.now)) c.number.ensures) cs filled.value.1 (omega (arith, long, filled.len));
       same = filled.same;
