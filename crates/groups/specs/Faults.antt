@@ -4,23 +4,20 @@ use Rattle.tokens.specs.Faults as tokens
 use Rattle.layers.specs.declared.Layer.{Layer}
 use Rattle.layers.specs.declared.Layer.TheVariants as layer
 use Rattle.groups.specs.declared.faults.GroupFault.{GroupFault}
-use Rattle.groups.specs.declared.faults.GroupFault.TheVariants.{Token, TooDeep, Unclosed, Unbalanced}
+use Rattle.groups.specs.declared.faults.GroupFault.TheVariants.{Token, TooDeep, Unclosed}
 
 abbrev pub number_of : GroupFault → ℕ
 number_of (Token f) = tokens.number_of f
 number_of (TooDeep at) = 3
 number_of (Unclosed at) = 4
-number_of (Unbalanced at) = 14
 
--- The place of the brace that opens the group, or that closes one which was not opened.
+-- The place of the brace that opens the group.
 abbrev pub place_of : GroupFault → ℕ
 place_of (Token f) = tokens.place_of f
 place_of (TooDeep at) = at
 place_of (Unclosed at) = at
-place_of (Unbalanced at) = at
 
 abbrev pub layer_of : GroupFault → Layer
 layer_of (Token f) = tokens.layer_of f
 layer_of (TooDeep at) = layer.Groups
 layer_of (Unclosed at) = layer.Groups
-layer_of (Unbalanced at) = layer.Groups

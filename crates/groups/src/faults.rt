@@ -15,8 +15,6 @@ pub enum GroupFault {
     TooDeep(usize),
     // The bytes end with a group open: the place of the last group opened and not closed.
     Unclosed(usize),
-    // Bytes that are to stand inside a group close one that they did not open, or leave one open: the place of its brace.
-    Unbalanced(usize),
 }
 
 // Lets `?` pass a token's fault up.
@@ -36,7 +34,6 @@ impl GroupFault {
             GroupFault::Token(f) => f.number(),
             GroupFault::TooDeep(_) => 3,
             GroupFault::Unclosed(_) => 4,
-            GroupFault::Unbalanced(_) => 14,
         }
     }
 
@@ -47,7 +44,6 @@ impl GroupFault {
             GroupFault::Token(f) => f.place(),
             GroupFault::TooDeep(at) => *at,
             GroupFault::Unclosed(at) => *at,
-            GroupFault::Unbalanced(at) => *at,
         }
     }
 
@@ -58,7 +54,6 @@ impl GroupFault {
             GroupFault::Token(f) => f.layer(),
             GroupFault::TooDeep(_) => Layer::Groups,
             GroupFault::Unclosed(_) => Layer::Groups,
-            GroupFault::Unbalanced(_) => Layer::Groups,
         }
     }
 }

@@ -2,8 +2,7 @@
 #![tactic(auto)]
 
 use pages::{CodePage, Windows1252};
-use reader::read;
-use records::RecordFault;
+use reader::{ReadFault, read};
 use std::io;
 use std::io::{Read, Write};
 
@@ -13,7 +12,7 @@ const ROOM: usize = 98_304;
 // One byte more than reading takes, so that a longer input is seen to be longer.
 const MOST: u64 = 32_769;
 
-fn print_refusal(rt: &HostRuntime, fault: RecordFault) -> io::Result<()> {
+fn print_refusal(rt: &HostRuntime, fault: ReadFault) -> io::Result<()> {
     let number = fault.number();
     let place = fault.place();
     let layer = fault.layer().name();

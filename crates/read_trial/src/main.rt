@@ -12,8 +12,8 @@ mod tally;
 
 use answers::Answer;
 use pages::{Ascii20127, CodePage, Windows1251, Windows1252};
-use reader::{Reading, read};
-use records::{Kind, RecordFault};
+use reader::{ReadFault, Reading, read};
+use records::Kind;
 use second::{Page, Script, expect, read_script};
 use std::alloc::{AllocError, Global};
 use std::io;
@@ -36,7 +36,7 @@ struct Done {
     buffer: Vec<u8>,
 }
 
-fn answer_of(told: Result<Reading, RecordFault>) -> Answer {
+fn answer_of(told: Result<Reading, ReadFault>) -> Answer {
     match told {
         Ok(reading) => match reading.kind {
             Kind::Html => Answer::Html(reading.length),

@@ -2,8 +2,8 @@
 use Rattle.std.proofs.Common.{◌≡◌, ℕ, ◌+◌, ◌<◌, ◌≤◌, false, List, [], ◌∷◌, ◌++◌, length, is_some, Some, None, Ok, Err, Option, Result, sym, refl, ap, ◌∙◌, append_assoc, append-nil, arith, length-append}
 use Rattle.std.specs.List.{AllByRecursion}
 use Rattle.std.proofs.lemmas.Bool.{true≢false}
-use Rattle.records.specs.declared.faults.RecordFault.{RecordFault}
-use Rattle.records.specs.declared.faults.RecordFault.TheVariants.{LoneHalf}
+use Rattle.reader.specs.declared.faults.ReadFault.{ReadFault}
+use Rattle.reader.specs.declared.faults.ReadFault.TheVariants.{LoneHalf}
 use Rattle.reader.specs.declared.assemble.Half.{Half}
 use Rattle.reader.specs.declared.assemble.Joined.{Joined}
 use Rattle.reader.specs.Rules.{Effect}
@@ -11,7 +11,7 @@ use Rattle.reader.specs.Content.{make, read, before, onward, characters}
 use Rattle.reader.specs.Pieces.{characters_of, shown_joined}
 use Rattle.reader.specs.Walk.{as_bytes}
 
-before_more : (cs ds : List ℕ) (r : Result (List ℕ) RecordFault) → before cs (before ds r) ≡ before (cs ++ ds) r
+before_more : (cs ds : List ℕ) (r : Result (List ℕ) ReadFault) → before cs (before ds r) ≡ before (cs ++ ds) r
 before_more cs ds (Ok es) = ap (λ l. Ok l) (sym (append_assoc cs ds es))
 before_more cs ds (Err f) = refl
 
@@ -24,7 +24,7 @@ module _ (decoded : ℕ → Option ℕ) where
     pub made_more : (j : Joined) → shown_joined (Ok j) ≡ make decoded w x.0 x.1 → before done (characters decoded w all) ≡ before (done ++ characters_of j.piece) (characters decoded j.waiting xs)
     made_more j m = ap (λ l. before done (characters decoded w l)) e ∙ ap (before done) (characters_step w x xs) ∙ ap (λ r. before done (onward r (λ w. characters decoded w xs))) (sym m) ∙ before_more done (characters_of j.piece) (characters decoded j.waiting xs)
 
-    pub made_none : (f : RecordFault) → Err f ≡ make decoded w x.0 x.1 → before done (characters decoded w all) ≡ Err f
+    pub made_none : (f : ReadFault) → Err f ≡ make decoded w x.0 x.1 → before done (characters decoded w all) ≡ Err f
     made_none f m = ap (λ l. before done (characters decoded w l)) e ∙ ap (before done) (characters_step w x xs) ∙ ap (λ r. before done (onward r (λ w. characters decoded w xs))) (sym m)
 
   module _ (done : List ℕ) (w : Option Half) (all : List (Effect × ℕ)) (e : all ≡ []) where
@@ -39,7 +39,7 @@ pub none_waits : (w : Option Half) → is_some w ≡ false → w ≡ None
 none_waits None e = refl
 none_waits (Some h) e = absurd (true≢false e)
 
-before_none : (r : Result (List ℕ) RecordFault) → r ≡ before [] r
+before_none : (r : Result (List ℕ) ReadFault) → r ≡ before [] r
 before_none (Ok cs) = refl
 before_none (Err f) = refl
 

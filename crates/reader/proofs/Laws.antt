@@ -8,7 +8,7 @@ use Rattle.std.proofs.lemmas.List.{take_at, drop_at, take_all}
 use Rattle.std.proofs.lemmas.Bool.{cond-true, cond_both, and_parts, and_from, and_cases, or_cases, leb-true, leb-false, eqb-true, le-leb, lt-ltb}
 use Rattle.tokens.specs.Tokens.{Tok, opens, closes, word, hex, symbol, text, Item, good, bad, items_by, items}
 use Rattle.tokens.specs.declared.faults.Flaw.TheVariants.{LoneBackslash}
-use Rattle.records.specs.declared.faults.RecordFault.{RecordFault}
+use Rattle.reader.specs.declared.faults.ReadFault.{ReadFault}
 use Rattle.records.specs.Apart.{is_rtf, first_end}
 use Rattle.records.specs.Laws.{IsRecord}
 use Rattle.records.proofs.Alone.{never, first_alone}
@@ -174,11 +174,11 @@ effects_fair m k ss n (bad f ∷ is) = tt
 effects_fair m k ss n (good t p e ∷ is) = step_fair (λ rs n. effects m k rs n is) (λ rs n. effects_fair m k rs n is) m k t p (tag_next is) ss n
 
 -- What is made, or told, is of scalar values, unless it is a fault.
-abbrev ScalarsMade : Result Made RecordFault → Type 0
+abbrev ScalarsMade : Result Made ReadFault → Type 0
 ScalarsMade (Ok m) = scalars m.characters ≡ true
 ScalarsMade (Err f) = Unit {0}
 
-abbrev ScalarsTold : Result (List ℕ) RecordFault → Type 0
+abbrev ScalarsTold : Result (List ℕ) ReadFault → Type 0
 ScalarsTold (Ok cs) = scalars cs ≡ true
 ScalarsTold (Err f) = Unit {0}
 
@@ -201,11 +201,11 @@ second_scalars h (byte b) = tt
 second_scalars h (given cs) = tt
 second_scalars h beyond = tt
 
-before_scalars : (cs : List ℕ) (r : Result (List ℕ) RecordFault) → scalars cs ≡ true → ScalarsTold r → ScalarsTold (before cs r)
+before_scalars : (cs : List ℕ) (r : Result (List ℕ) ReadFault) → scalars cs ≡ true → ScalarsTold r → ScalarsTold (before cs r)
 before_scalars cs (Ok ds) e f = scalars_append cs ds e f
 before_scalars cs (Err g) e f = tt
 
-onward_scalars : (r : Result Made RecordFault) (later : Option Half → Result (List ℕ) RecordFault) → ScalarsMade r → ((o : Option Half) → ScalarsTold (later o)) → ScalarsTold (onward r later)
+onward_scalars : (r : Result Made ReadFault) (later : Option Half → Result (List ℕ) ReadFault) → ScalarsMade r → ((o : Option Half) → ScalarsTold (later o)) → ScalarsTold (onward r later)
 onward_scalars (Ok m) later e ih = before_scalars m.characters (later m.waiting) e (ih m.waiting)
 onward_scalars (Err g) later e ih = tt
 
@@ -238,7 +238,7 @@ module _ (decoded : ℕ → Option ℕ) (scalar-page : ScalarPage decoded) where
       subst ScalarsTold e (characters_scalars None (effects 64 k (outermost ∷ []) 0 (items 0 1 (drop 1 bs))) (effects_fair 64 k (outermost ∷ []) 0 (items 0 1 (drop 1 bs))))
 
 -- what a check let through, if the whole is told
-then_ok : {A B : Type 0} (r : Result A RecordFault) (f : A → Result B RecordFault) (y : B) → and_then r f ≡ Ok y → (x : A) × (r ≡ Ok x) × (f x ≡ Ok y)
+then_ok : {A B : Type 0} (r : Result A ReadFault) (f : A → Result B ReadFault) (y : B) → and_then r f ≡ Ok y → (x : A) × (r ≡ Ok x) × (f x ≡ Ok y)
 then_ok (Ok x) f y e = (x, refl, e)
 then_ok (Err g) f y e = never (cc)
 
@@ -286,15 +286,15 @@ trailing_changes_nothing page decoded room r tail e a h =
 -- Places do not matter: whatever is told but a fault is told of the same tokens at no places.
 
 -- A result without its fault.
-abbrev kept : {A : Type 0} → Result A RecordFault → Option A
+abbrev kept : {A : Type 0} → Result A ReadFault → Option A
 kept (Ok x) = Some x
 kept (Err f) = None
 
-kept_ok : {A : Type 0} (r : Result A RecordFault) (x : A) → kept r ≡ Some x → r ≡ Ok x
+kept_ok : {A : Type 0} (r : Result A ReadFault) (x : A) → kept r ≡ Some x → r ≡ Ok x
 kept_ok (Ok y) x e = let same : y ≡ x = cc in ap Ok same
 kept_ok (Err f) x e = never (cc)
 
-kept_then : {A B : Type 0} (r s : Result A RecordFault) (f g : A → Result B RecordFault) → kept r ≡ kept s → ((x : A) → kept (f x) ≡ kept (g x)) → kept (and_then r f) ≡ kept (and_then s g)
+kept_then : {A B : Type 0} (r s : Result A ReadFault) (f g : A → Result B ReadFault) → kept r ≡ kept s → ((x : A) → kept (f x) ≡ kept (g x)) → kept (and_then r f) ≡ kept (and_then s g)
 kept_then (Ok x) (Ok y) f g e h = let same : x ≡ y = cc in h x ∙ ap (λ z. kept (g z)) same
 kept_then (Ok x) (Err b) f g e h = never (cc)
 kept_then (Err a) (Ok y) f g e h = never (cc)
@@ -309,11 +309,11 @@ abbrev bare : List Item → List Item
 bare is = map nowhere (map token_of is)
 
 -- the kind
-pass_bare : (b : Bool) (f g : RecordFault) (r s : Result Kind RecordFault) → kept r ≡ kept s → kept (cond b (Err f) r) ≡ kept (cond b (Err g) s)
+pass_bare : (b : Bool) (f g : ReadFault) (r s : Result Kind ReadFault) → kept r ≡ kept s → kept (cond b (Err f) r) ≡ kept (cond b (Err g) s)
 pass_bare true f g r s e = refl
 pass_bare false f g r s e = e
 
-found_bare : (x : Sign) (n p : ℕ) (r s : Result Kind RecordFault) → kept r ≡ kept s → kept (found x n p r) ≡ kept (found x n 0 s)
+found_bare : (x : Sign) (n p : ℕ) (r s : Result Kind ReadFault) → kept r ≡ kept s → kept (found x n p r) ≡ kept (found x n 0 s)
 found_bare (sign.Mark k) n p r s e = refl
 found_bare sign.Pass n p r s e = pass_bare (leb n 1) _ _ r s e
 found_bare sign.Stop n p r s e = refl
@@ -324,7 +324,7 @@ recognised_bare n (bad f ∷ is) = refl
 recognised_bare n (good t p e ∷ is) = found_bare (sign_of t) n p (recognised (n - 1) is) (recognised (n - 1) (bare is)) (recognised_bare (n - 1) is)
 
 -- the page
-page_bare : (o : Option Bool) (p : ℕ) (r s : Result (Unit {0}) RecordFault) → kept r ≡ kept s → kept (declared_by o p r) ≡ kept (declared_by o 0 s)
+page_bare : (o : Option Bool) (p : ℕ) (r s : Result (Unit {0}) ReadFault) → kept r ≡ kept s → kept (declared_by o p r) ≡ kept (declared_by o 0 s)
 page_bare None p r s e = e
 page_bare (Some true) p r s e = refl
 page_bare (Some false) p r s e = refl
@@ -447,11 +447,11 @@ abbrev bare_half : Option Half → Option Half
 bare_half None = None
 bare_half (Some h) = Some (record { unit = h.unit; place = 0 })
 
-abbrev bare_made : Result Made RecordFault → Option Made
+abbrev bare_made : Result Made ReadFault → Option Made
 bare_made (Ok m) = Some (record { characters = m.characters; waiting = bare_half m.waiting })
 bare_made (Err f) = None
 
-made_cond : (b : Bool) (x y u v : Result Made RecordFault) → bare_made x ≡ kept u → bare_made y ≡ kept v → bare_made (cond b x y) ≡ kept (cond b u v)
+made_cond : (b : Bool) (x y u v : Result Made ReadFault) → bare_made x ≡ kept u → bare_made y ≡ kept v → bare_made (cond b x y) ≡ kept (cond b u v)
 made_cond true x y u v e f = e
 made_cond false x y u v e f = f
 
@@ -459,13 +459,13 @@ read_bare : (o : Option ℕ) (p : ℕ) → bare_made (read o p) ≡ kept (read o
 read_bare None p = refl
 read_bare (Some c) p = refl
 
-before_bare : (cs : List ℕ) (r s : Result (List ℕ) RecordFault) → kept r ≡ kept s → kept (before cs r) ≡ kept (before cs s)
+before_bare : (cs : List ℕ) (r s : Result (List ℕ) ReadFault) → kept r ≡ kept s → kept (before cs r) ≡ kept (before cs s)
 before_bare cs (Ok ds) (Ok es) e = let same : ds ≡ es = cc in ap (λ l. Some (cs ++ l)) same
 before_bare cs (Ok ds) (Err g) e = never (cc)
 before_bare cs (Err f) (Ok es) e = never (cc)
 before_bare cs (Err f) (Err g) e = refl
 
-onward_bare : (r s : Result Made RecordFault) (later bared : Option Half → Result (List ℕ) RecordFault) → bare_made r ≡ kept s → ((o : Option Half) → kept (later o) ≡ kept (bared (bare_half o))) → kept (onward r later) ≡ kept (onward s bared)
+onward_bare : (r s : Result Made ReadFault) (later bared : Option Half → Result (List ℕ) ReadFault) → bare_made r ≡ kept s → ((o : Option Half) → kept (later o) ≡ kept (bared (bare_half o))) → kept (onward r later) ≡ kept (onward s bared)
 onward_bare (Ok m) (Ok n) later bared e ih =
     let same : record { characters = m.characters; waiting = bare_half m.waiting } ≡ n = cc in
     before_bare m.characters (later m.waiting) (bared (bare_half m.waiting)) (ih m.waiting) ∙ ap (λ x. kept (before x.characters (bared x.waiting))) same

@@ -3,8 +3,8 @@ use Rattle.std.proofs.Common.{◌≡◌, ℕ, zero, suc, ◌-◌, ◌<◌, ◌�
 use Rattle.std.proofs.lemmas.Bool.{cond-true, cond-false, le-leb, lt-leb}
 use Rattle.tokens.specs.Tokens.{Tok, good, items, next}
 use Rattle.tokens.proofs.Items.{items_good}
-use Rattle.records.specs.declared.faults.RecordFault.{RecordFault}
-use Rattle.records.specs.declared.faults.RecordFault.TheVariants.{NoEncapsulation, WrongPage}
+use Rattle.reader.specs.declared.faults.ReadFault.{ReadFault}
+use Rattle.reader.specs.declared.faults.ReadFault.TheVariants.{NoEncapsulation, WrongPage}
 use Rattle.records.specs.declared.kinds.Kind.{Kind}
 use Rattle.reader.specs.declared.recognise.Sign.{Sign}
 use Rattle.reader.specs.declared.recognise.Sign.TheVariants.{Pass}
@@ -33,8 +33,8 @@ module _ (bytes : List ℕ) (at : ℕ) where
         ap (declared page (suc n)) (items_good bytes at t p e l h) ∙ ap (λ x. declared_by x p (declared page n (items 0 e (drop e bytes)))) (sym is) ∙ ap (λ k. declared_by o p (declared page k (items 0 e (drop e bytes)))) less
 
 -- a token to pass over
-pub pass_last : (n p : ℕ) (later : Result Kind RecordFault) → n ≤ 1 → found Pass n p later ≡ Err (NoEncapsulation p)
+pub pass_last : (n p : ℕ) (later : Result Kind ReadFault) → n ≤ 1 → found Pass n p later ≡ Err (NoEncapsulation p)
 pass_last n p later h = cond-true _ _ _ (le-leb n 1 h)
 
-pub pass_on : (n p : ℕ) (later : Result Kind RecordFault) → 1 < n → found Pass n p later ≡ later
+pub pass_on : (n p : ℕ) (later : Result Kind ReadFault) → 1 < n → found Pass n p later ≡ later
 pass_on n p later h = cond-false _ _ _ (lt-leb n 1 h)

@@ -6,7 +6,7 @@ use Rattle.std.proofs.lemmas.Bool.{cond_both, cond-true, cond-false, and_left, a
 use Rattle.tokens.specs.Tokens.{Tok, opens, closes, word, hex, symbol, text, Item, good}
 use Rattle.tokens.proofs.Lexed.{placed, spans, placed_append}
 use Rattle.groups.proofs.Passes.{Level}
-use Rattle.records.specs.declared.faults.RecordFault.{RecordFault}
+use Rattle.reader.specs.declared.faults.ReadFault.{ReadFault}
 use Rattle.records.specs.declared.kinds.Kind.{Kind}
 use Rattle.records.specs.declared.kinds.Kind.TheVariants.{Html}
 use Rattle.records.specs.Kinds.{is_html}
@@ -36,11 +36,11 @@ plain_inside p s h = record { loud = h.loud; shown = h.shown; single = h.single 
 pub plain_tag : (s : ReadingState) → Plain s → Plain (make_tag s)
 plain_tag s h = record { loud = h.loud; shown = h.shown; single = h.single }
 
-before_nil : (r : Result (List ℕ) RecordFault) → before [] r ≡ r
+before_nil : (r : Result (List ℕ) ReadFault) → before [] r ≡ r
 before_nil (Ok ds) = refl
 before_nil (Err f) = refl
 
-before_append : (cs ds : List ℕ) (r : Result (List ℕ) RecordFault) → before cs (before ds r) ≡ before (cs ++ ds) r
+before_append : (cs ds : List ℕ) (r : Result (List ℕ) ReadFault) → before cs (before ds r) ≡ before (cs ++ ds) r
 before_append cs ds (Ok es) = ap Ok (sym (append_assoc cs ds es))
 before_append cs ds (Err f) = refl
 

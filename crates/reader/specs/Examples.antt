@@ -1,7 +1,7 @@
 -- Worked readings in page 1252, computed from the definitions.
 use Rattle.std.specs.Prelude.{◌≡◌, ℕ, List, [], ◌∷◌, ◌++◌, Ok, Err, codes, Result}
-use Rattle.records.specs.declared.faults.RecordFault.{RecordFault}
-use Rattle.records.specs.declared.faults.RecordFault.TheVariants.{NoEncapsulation, NoCharacter, LoneHalf}
+use Rattle.reader.specs.declared.faults.ReadFault.{ReadFault}
+use Rattle.reader.specs.declared.faults.ReadFault.TheVariants.{NoEncapsulation, NoCharacter, LoneHalf}
 use Rattle.pages.specs.Page.{char_of}
 use Rattle.pages.specs.Windows.{chars1252}
 use Rattle.records.specs.declared.kinds.Kind.{Kind}
@@ -9,7 +9,7 @@ use Rattle.records.specs.declared.kinds.Kind.TheVariants.{Html, Text}
 use Rattle.reader.specs.Reading.{read_of}
 
 -- What is read in page 1252, with much room.
-abbrev pub read_in1252 : List ℕ → Result (Kind × List ℕ) RecordFault
+abbrev pub read_in1252 : List ℕ → Result (Kind × List ℕ) ReadFault
 read_in1252 bytes = read_of 1252 (char_of chars1252) 98304 bytes
 
 -- A record of HTML, and one of text, by what follows the mark.

@@ -1,7 +1,7 @@
 -- What a guard over result bytes holds, and what it leaves.
 use Rattle.std.specs.Prelude.{◌≡◌, ℕ, ◌-◌, Bool, false, cond, List, ◌++◌, length, replicate, Ok, Err, Result, nat_lt}
 use Rattle.std.proofs.Math.Utf8.{encodes}
-use Rattle.records.specs.declared.faults.RecordFault.{RecordFault}
+use Rattle.reader.specs.declared.faults.ReadFault.{ReadFault}
 use Rattle.records.specs.declared.kinds.Kind.{Kind}
 use Rattle.reader.specs.declared.reading.Reading.{Reading}
 use Rattle.reader.specs.declared.guard.Guard.{Guard}
@@ -20,11 +20,11 @@ pub record Holds (content : List ℕ) (g : Guard) : Type 0 where
   pub bytes : g.short ≡ false → g.bytes.now ≡ content ++ zeros (length g.bytes.now - length content)
 
 -- A filling told this of the characters that were to come, and the guard holds them.
-abbrev pub Filled : Result (List ℕ) RecordFault → Result (Unit {0}) RecordFault → Guard → Type 0
+abbrev pub Filled : Result (List ℕ) ReadFault → Result (Unit {0}) ReadFault → Guard → Type 0
 Filled told (Ok _) g = (cs : List ℕ) × (told ≡ Ok cs) × Holds (encodes cs) g
 Filled told (Err f) g = told ≡ Err f
 
 -- A reading told this, and the guard holds the content.
-abbrev pub ToldInto : Result (Kind × List ℕ) RecordFault → Result Reading RecordFault → Guard → Type 0
+abbrev pub ToldInto : Result (Kind × List ℕ) ReadFault → Result Reading ReadFault → Guard → Type 0
 ToldInto told (Ok r) g = (content : List ℕ) × (told ≡ Ok (r.kind, content)) × (r.length ≡ length content) × (g.bytes.now ≡ content ++ zeros (length g.bytes.now - length content))
 ToldInto told (Err f) g = told ≡ Err f

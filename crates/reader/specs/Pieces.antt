@@ -1,7 +1,7 @@
 -- How what the code makes of an effect shows as characters.
 use Rattle.std.specs.Prelude.{ℕ, List, [], ◌∷◌, Ok, Err, Result}
 use Rattle.std.specs.Str.{chars}
-use Rattle.records.specs.declared.faults.RecordFault.{RecordFault}
+use Rattle.reader.specs.declared.faults.ReadFault.{ReadFault}
 use Rattle.reader.specs.declared.assemble.Piece.{Piece}
 use Rattle.reader.specs.declared.assemble.Piece.TheVariants as piece
 use Rattle.reader.specs.declared.assemble.Joined.{Joined}
@@ -12,6 +12,6 @@ characters_of piece.Nothing = []
 characters_of (piece.Character c) = c ∷ []
 characters_of (piece.Text s) = chars s.now
 
-abbrev pub shown_joined : Result Joined RecordFault → Result Made RecordFault
+abbrev pub shown_joined : Result Joined ReadFault → Result Made ReadFault
 shown_joined (Ok j) = Ok (record { characters = characters_of j.piece; waiting = j.waiting })
 shown_joined (Err f) = Err f

@@ -2,8 +2,8 @@
 use Rattle.std.specs.Prelude.{ℕ, zero, suc, ◌-◌, Bool, true, false, cond, ◌&&◌, List, [], ◌∷◌, ℤ, pos, negsuc, Some, None, Ok, Err, codes, Option, Result, ◌==◌, nat_le}
 use Rattle.std.specs.Str.{bytes_eq}
 use Rattle.tokens.specs.Tokens.{Tok, opens, closes, word, hex, symbol, text, Item, good, bad}
-use Rattle.records.specs.declared.faults.RecordFault.{RecordFault}
-use Rattle.records.specs.declared.faults.RecordFault.TheVariants.{NoEncapsulation, WrongPage}
+use Rattle.reader.specs.declared.faults.ReadFault.{ReadFault}
+use Rattle.reader.specs.declared.faults.ReadFault.TheVariants.{NoEncapsulation, WrongPage}
 use Rattle.records.specs.declared.kinds.Kind.{Kind}
 use Rattle.records.specs.declared.kinds.Kind.TheVariants.{Html, Text}
 use Rattle.reader.specs.declared.recognise.Sign.{Sign}
@@ -36,13 +36,13 @@ sign_of (symbol b) = Stop
 sign_of (text b) = Stop
 
 -- One token, of at most n that are looked at.
-abbrev pub found : Sign → ℕ → ℕ → Result Kind RecordFault → Result Kind RecordFault
+abbrev pub found : Sign → ℕ → ℕ → Result Kind ReadFault → Result Kind ReadFault
 found (Mark k) n p later = Ok k
 found Pass n p later = cond (nat_le n 1) (Err (NoEncapsulation p)) later
 found Stop n p later = Err (NoEncapsulation p)
 
 -- The kind by the first mark among n tokens. (A record's closing brace ends it, so it does not come to the tokens' end.)
-abbrev pub recognised : ℕ → List Item → Result Kind RecordFault
+abbrev pub recognised : ℕ → List Item → Result Kind ReadFault
 recognised n [] = Err (NoEncapsulation 0)
 recognised n (bad f ∷ is) = Err (NoEncapsulation 0)
 recognised n (good t p e ∷ is) = found (sign_of t) n p (recognised (n - 1) is)
@@ -62,13 +62,13 @@ declares page (hex b) = None
 declares page (symbol b) = None
 declares page (text b) = None
 
-abbrev pub declared_by : Option Bool → ℕ → Result (Unit {0}) RecordFault → Result (Unit {0}) RecordFault
+abbrev pub declared_by : Option Bool → ℕ → Result (Unit {0}) ReadFault → Result (Unit {0}) ReadFault
 declared_by None p later = later
 declared_by (Some true) p later = Ok tt
 declared_by (Some false) p later = Err (WrongPage p)
 
 -- The first \ansicpg among n tokens declares the page, and it is the given one.
-abbrev pub declared : ℕ → ℕ → List Item → Result (Unit {0}) RecordFault
+abbrev pub declared : ℕ → ℕ → List Item → Result (Unit {0}) ReadFault
 declared page zero is = Err (WrongPage 0)
 declared page (suc n) [] = Err (WrongPage 0)
 declared page (suc n) (bad f ∷ is) = Err (WrongPage 0)

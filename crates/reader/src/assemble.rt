@@ -4,9 +4,9 @@ ghost use Rattle.reader.specs.Content.{is_high, is_low, pair_of, making, alone a
 ghost use Rattle.reader.specs.Pieces.{characters_of, shown_joined};
 ghost use Rattle.reader.specs.Shown.{shown_effect};
 
+use crate::faults::ReadFault;
 use crate::rules::Effect;
 use pages::CodePage;
-use records::RecordFault;
 
 // The first half of a character, which waits for its second, with the place of its token.
 #[derive(Clone, Copy)]
@@ -50,7 +50,7 @@ fn pair(high: u16, low: u16) -> char
     char::from_u32(code).unwrap()
 }
 
-fn made(piece: Piece) -> Result<Joined, RecordFault>
+fn made(piece: Piece) -> Result<Joined, ReadFault>
     ensures { shown_joined result ≡ making (characters_of piece) }
 {
     Ok(Joined {
@@ -60,7 +60,7 @@ fn made(piece: Piece) -> Result<Joined, RecordFault>
 }
 
 // A unit where no half waits.
-fn alone(unit: u16, place: usize) -> Result<Joined, RecordFault>
+fn alone(unit: u16, place: usize) -> Result<Joined, ReadFault>
     ensures { shown_joined result ≡ alone_of unit place }
 {
     if is_high(unit) {
@@ -70,33 +70,33 @@ fn alone(unit: u16, place: usize) -> Result<Joined, RecordFault>
         });
     }
     if is_low(unit) {
-        return Err(RecordFault::LoneHalf(place));
+        return Err(ReadFault::LoneHalf(place));
     }
     made(Piece::Character(char::from_u32(u32::from(unit)).unwrap()))
 }
 
 // An effect directly after a half.
-fn second(half: Half, effect: Effect) -> Result<Joined, RecordFault>
+fn second(half: Half, effect: Effect) -> Result<Joined, ReadFault>
     ensures { shown_joined result ≡ second_of half (shown_effect effect) }
 {
     match effect {
         Effect::Unit(unit) if is_low(unit) => made(Piece::Character(pair(half.unit, unit))),
-        _ => Err(RecordFault::LoneHalf(half.place)),
+        _ => Err(ReadFault::LoneHalf(half.place)),
     }
 }
 
 // An effect where no half waits.
-fn first<P: CodePage>(page: &P, effect: Effect, place: usize) -> Result<Joined, RecordFault>
+fn first<P: CodePage>(page: &P, effect: Effect, place: usize) -> Result<Joined, ReadFault>
     ensures { shown_joined result ≡ first_of (P.CodePage.decoded page.now) (shown_effect effect) place }
 {
     match effect {
         Effect::Unit(unit) => alone(unit, place),
         Effect::Byte(byte) => match page.decode(byte) {
             Some(character) => made(Piece::Character(character)),
-            None => Err(RecordFault::NoCharacter(place)),
+            None => Err(ReadFault::NoCharacter(place)),
         },
         Effect::Given(text) => made(Piece::Text(text)),
-        Effect::Beyond => Err(RecordFault::NoUnit(place)),
+        Effect::Beyond => Err(ReadFault::NoUnit(place)),
     }
 }
 
@@ -106,7 +106,7 @@ pub fn join<P: CodePage>(
     waiting: Option<Half>,
     effect: Effect,
     place: usize,
-) -> Result<Joined, RecordFault>
+) -> Result<Joined, ReadFault>
     ensures { shown_joined result ≡ make (P.CodePage.decoded page.now) waiting (shown_effect effect) place }
 {
     match waiting {

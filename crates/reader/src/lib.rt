@@ -2,6 +2,7 @@
 #![tactic(auto)]
 
 mod assemble;
+mod faults;
 mod guard;
 mod promises;
 mod reading;
@@ -12,5 +13,6 @@ mod state;
 mod walk;
 mod words;
 
+pub use faults::ReadFault;
 pub use promises::{laws_of_reading, readings_as_worked};
 pub use reading::{Reading, read};

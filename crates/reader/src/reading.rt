@@ -6,6 +6,7 @@ ghost use Rattle.reader.specs.Pieces.{characters_of};
 ghost use Rattle.reader.specs.Reading.{content_of, record_of, read_of, Told};
 
 use crate::assemble::{Half, Piece, join};
+use crate::faults::ReadFault;
 use crate::guard::Guard;
 use crate::recognise::{check_page, recognise};
 use crate::sound::sound_record;
@@ -13,7 +14,7 @@ use crate::state::ReadingState;
 use crate::walk::Effects;
 use groups::MAX_OPEN;
 use pages::CodePage;
-use records::{Kind, RecordFault};
+use records::Kind;
 
 // What an accepted reading tells.
 #[derive(Clone, Copy, PartialEq, Eq, Debug)]
@@ -45,7 +46,7 @@ fn put_content<P: CodePage>(
     kind: Kind,
     page: &P,
     out: &mut Guard<'_>,
-) -> Result<(), RecordFault>
+) -> Result<(), ReadFault>
     requires { Holds [] out.old }
     ensures value { Filled (content_of (P.CodePage.decoded page.now) kind «record».now) result out.new }
     ensures same { out.new.bytes.ghost_name ≡ out.old.bytes.ghost_name }
@@ -65,17 +66,13 @@ fn put_content<P: CodePage>(
         }
     }
     match waiting {
-        Some(half) => Err(RecordFault::LoneHalf(half.place)),
+        Some(half) => Err(ReadFault::LoneHalf(half.place)),
         None => Ok(()),
     }
 }
 
 // All checks in their order, and the content into the result.
-fn read_into<P: CodePage>(
-    bytes: &[u8],
-    page: &P,
-    out: &mut Guard<'_>,
-) -> Result<Reading, RecordFault>
+fn read_into<P: CodePage>(bytes: &[u8], page: &P, out: &mut Guard<'_>) -> Result<Reading, ReadFault>
     requires { Holds [] out.old }
     ensures value { ToldInto (read_of (P.CodePage.number page.now) (P.CodePage.decoded page.now) (length out.old.bytes.now) bytes.now) result out.new }
     ensures same { out.new.bytes.ghost_name ≡ out.old.bytes.ghost_name }
@@ -88,13 +85,13 @@ fn read_into<P: CodePage>(
     put_content(record, kind, page, out)?;
     match out.length() {
         Some(length) => Ok(Reading { kind, length }),
-        None => Err(RecordFault::ShortBuffer),
+        None => Err(ReadFault::ShortBuffer),
     }
 }
 
 // The kind and the content of the record that the bytes are, in a code page. The result then holds the content and zeros after
 // it; where the reading is refused it holds only zeros.
-pub fn read<P: CodePage>(bytes: &[u8], page: &P, out: &mut [u8]) -> Result<Reading, RecordFault>
+pub fn read<P: CodePage>(bytes: &[u8], page: &P, out: &mut [u8]) -> Result<Reading, ReadFault>
     ensures { Told (read_of (P.CodePage.number page.now) (P.CodePage.decoded page.now) (length out.old) bytes.now) (length out.old) result out.new }
 {
     let mut guard = Guard::new(out);

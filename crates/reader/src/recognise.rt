@@ -5,8 +5,9 @@ ghost use Rattle.tokens.specs.Shown.{shown as shown_token};
 ghost use Rattle.tokens.specs.Tokens.{items};
 ghost use Rattle.reader.specs.Recognition.{is_one, is_none, is_page, mark_of, sign_of, recognised, declares as declares_of, declared};
 
+use crate::faults::ReadFault;
 use crate::walk::token_at;
-use records::{Kind, RecordFault};
+use records::Kind;
 use tokens::Token;
 
 // How many tokens are gone through.
@@ -73,7 +74,7 @@ fn sign_of(token: Token<'_>) -> Sign
 }
 
 // The kind by the first mark.
-pub fn recognise(bytes: &[u8]) -> Result<Kind, RecordFault>
+pub fn recognise(bytes: &[u8]) -> Result<Kind, ReadFault>
     ensures { result ≡ recognised 10 (items 0 0 bytes.now) }
 {
     let mut at = 0;
@@ -81,17 +82,17 @@ pub fn recognise(bytes: &[u8]) -> Result<Kind, RecordFault>
     while let Some(found) = token_at(bytes, at) {
         match sign_of(found.token) {
             Sign::Mark(kind) => return Ok(kind),
-            Sign::Stop => return Err(RecordFault::NoEncapsulation(found.place)),
+            Sign::Stop => return Err(ReadFault::NoEncapsulation(found.place)),
             Sign::Pass => {
                 if left <= 1 {
-                    return Err(RecordFault::NoEncapsulation(found.place));
+                    return Err(ReadFault::NoEncapsulation(found.place));
                 }
             }
         }
         left -= 1;
         at = found.end;
     }
-    Err(RecordFault::NoEncapsulation(0))
+    Err(ReadFault::NoEncapsulation(0))
 }
 
 fn is_page(number: Option<i32>, page: u16) -> bool
@@ -120,7 +121,7 @@ fn declares(token: Token<'_>, page: u16) -> Option<bool>
 }
 
 // The first `\ansicpg` declares the page, and it is the given one.
-pub fn check_page(bytes: &[u8], page: u16) -> Result<(), RecordFault>
+pub fn check_page(bytes: &[u8], page: u16) -> Result<(), ReadFault>
     ensures { result ≡ declared page 10 (items 0 0 bytes.now) }
 {
     let mut at = 0;
@@ -133,10 +134,10 @@ pub fn check_page(bytes: &[u8], page: u16) -> Result<(), RecordFault>
             if same {
                 return Ok(());
             }
-            return Err(RecordFault::WrongPage(found.place));
+            return Err(ReadFault::WrongPage(found.place));
         }
         left -= 1;
         at = found.end;
     }
-    Err(RecordFault::WrongPage(0))
+    Err(ReadFault::WrongPage(0))
 }

@@ -2,7 +2,8 @@
 ghost use Rattle.std.specs.Prelude.{◌≡◌, drop};
 ghost use Rattle.reader.specs.Reading.{may_trail, trailing as trailing_of, sound_record, shown_bytes};
 
-use records::{RecordFault, take_apart};
+use crate::faults::ReadFault;
+use records::take_apart;
 
 // The most bytes that reading takes.
 pub const MAX_BYTES: usize = 32_768;
@@ -14,13 +15,13 @@ fn may_trail(byte: u8) -> bool
 }
 
 // After a record only CR, LF and NUL may stand.
-fn check_trailing(bytes: &[u8], from: usize) -> Result<(), RecordFault>
+fn check_trailing(bytes: &[u8], from: usize) -> Result<(), ReadFault>
     ensures { result ≡ trailing_of from (drop from bytes.now) }
 {
     let mut at = from;
     while at < bytes.len() {
         if !may_trail(bytes[at]) {
-            return Err(RecordFault::Trailing(at));
+            return Err(ReadFault::Trailing(at));
         }
         at += 1;
     }
@@ -28,11 +29,11 @@ fn check_trailing(bytes: &[u8], from: usize) -> Result<(), RecordFault>
 }
 
 // The record that the bytes are, with nothing else after it.
-pub fn sound_record<'a>(bytes: &'a [u8]) -> Result<&'a [u8], RecordFault>
+pub fn sound_record<'a>(bytes: &'a [u8]) -> Result<&'a [u8], ReadFault>
     ensures { shown_bytes result ≡ sound_record bytes.now }
 {
     if bytes.len() > MAX_BYTES {
-        return Err(RecordFault::TooLong);
+        return Err(ReadFault::TooLong);
     }
     let (record, rest) = take_apart(bytes)?;
     check_trailing(bytes, rest.place)?;

@@ -9,7 +9,7 @@ use Rattle.tokens.specs.Names.{name_at}
 use Rattle.tokens.specs.declared.scan.Class.TheVariants.{Layout}
 use Rattle.tokens.proofs.Fronts.{stops_backslash, front_positive, front_solid}
 use Rattle.tokens.proofs.Lexed.{placed, spans, Lexed, lexed_nil, lexed_append, lexed_then, lexed_before, lexed_open, lexed_close, lexed_symbol, lexed_spaced}
-use Rattle.groups.specs.declared.faults.GroupFault.TheVariants.{Token, Unbalanced}
+use Rattle.groups.specs.declared.faults.GroupFault.TheVariants.{Token}
 use Rattle.groups.proofs.Passes.{Level, level_more, level_append, level_group}
 use Rattle.records.specs.declared.kinds.Kind.{Kind}
 use Rattle.records.specs.declared.kinds.Kind.TheVariants.{Html}
@@ -19,7 +19,7 @@ use Rattle.reader.specs.Words.{words, meaning, word_of, is_htmlrtf}
 use Rattle.reader.specs.Rules.{outermost, inside, make_tag, means}
 use Rattle.reader.proofs.Says.{plain_outermost, plain_inside, plain_tag, Says, says_nil, says_append, says_tag, says_dressed}
 use Rattle.writer.specs.declared.faults.WriterFault.{WriterFault}
-use Rattle.writer.specs.declared.faults.WriterFault.TheVariants.{Group, MarkerWord, NotPrintable}
+use Rattle.writer.specs.declared.faults.WriterFault.TheVariants.{Group, Unbalanced, MarkerWord, NotPrintable}
 use Rattle.writer.specs.Header.{tagged, dressed}
 use Rattle.writer.specs.Decoration.{is_printable, printable, markers, among, passed, faulty, sound, decoration_by, decoration}
 use Rattle.sittings.proofs.Spelt.{Spells}
@@ -142,7 +142,7 @@ module _ (whole : List ℕ) (at b : ℕ) (bs : List ℕ) (ih : (k : ℕ) (qs : L
       cond_both (ltb (length ps) 63) _ _ (λ r. r ≡ Ok tt → Let 0 at (b ∷ bs) ps)
       (λ q h. let_token opens n ps (at ∷ ps) e h (λ ts l. (ltb-true (length ps) 63 q, l)) refl)
       (λ _ h. err_not_ok _ h)
-  let_passed closes n [] e = λ h. err_not_ok (Group (Unbalanced at)) h
+  let_passed closes n [] e = λ h. err_not_ok (Unbalanced at) h
   let_passed closes n (p ∷ ps) e = λ h. let_token closes n (p ∷ ps) ps e h (λ ts l. l) refl
   let_passed (word name v) n ps e =
       cond_both (among name markers) (Err (MarkerWord at)) _ (λ r. r ≡ Ok tt → Let 0 at (b ∷ bs) ps)
@@ -159,7 +159,7 @@ module _ (whole : List ℕ) (at b : ℕ) (bs : List ℕ) (ih : (k : ℕ) (qs : L
 
 let_through : (whole : List ℕ) (k at : ℕ) (bs ps : List ℕ) → Printable bs → k ≤ length bs → sound whole ps (items k at bs) ≡ Ok tt → Let k at bs ps
 let_through whole zero at [] [] p h e = record { tokens = []; same = refl; whole = refl; level = refl; quiet = tt }
-let_through whole zero at [] (q ∷ ps) p h e = err_not_ok (Group (Unbalanced q)) e
+let_through whole zero at [] (q ∷ ps) p h e = err_not_ok (Unbalanced q) e
 let_through whole (suc k) at [] ps p h e = absurd (omega arith)
 let_through whole (suc k) at (b ∷ bs) ps p h e =
     let more = let_through whole k (at + 1) bs ps p.1 (omega arith) e in

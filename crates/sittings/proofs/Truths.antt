@@ -5,6 +5,7 @@ use Rattle.std.specs.Option.{option_map}
 use Rattle.std.proofs.ByRecursion.{All-push, All-weaker, All-map}
 use Rattle.std.proofs.lemmas.Bool.{cond-false, le-ltb}
 use Rattle.records.specs.declared.faults.RecordFault.{RecordFault}
+use Rattle.reader.specs.declared.faults.ReadFault.{ReadFault}
 use Rattle.records.specs.declared.kinds.Kind.{Kind}
 use Rattle.records.specs.declared.kinds.Kind.TheVariants.{Html, Text}
 use Rattle.records.specs.Apart.{first_end, series}
@@ -118,7 +119,7 @@ module _ (page : ℕ) (decoded encoded : ℕ → Option ℕ) (lawful : Lawful pa
   same_entry : (r u : Script) → Done page decoded r → Done page decoded u → r.bytes ≡ u.bytes → entry_of true r ≡ entry_of true u
   same_entry r u d f e =
       let room = length r.content + length u.content in
-      let told : ◌≡◌ {A = Result (Kind × List ℕ) RecordFault} (Ok (r.kind, r.content)) (Ok (u.kind, u.content)) = sym (done_reads page decoded encoded lawful r d room (omega arith)) ∙ ap (read_of page decoded room) e ∙ done_reads page decoded encoded lawful u f room (omega arith) in
+      let told : ◌≡◌ {A = Result (Kind × List ℕ) ReadFault} (Ok (r.kind, r.content)) (Ok (u.kind, u.content)) = sym (done_reads page decoded encoded lawful r d room (omega arith)) ∙ ap (read_of page decoded room) e ∙ done_reads page decoded encoded lawful u f room (omega arith) in
       let same : ◌≡◌ {A = Kind × List ℕ} (r.kind, r.content) (u.kind, u.content) = cc in
       ap (λ x. record { kind = x.0; content = x.1; finished = true }) same
 

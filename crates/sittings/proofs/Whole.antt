@@ -7,7 +7,7 @@ use Rattle.tokens.specs.Tokens.{opens, good, items}
 use Rattle.tokens.proofs.Lexed.{placed, lexed_append}
 use Rattle.groups.specs.Groups.{closing}
 use Rattle.groups.proofs.Passes.{level_passes, level_append}
-use Rattle.records.specs.declared.faults.RecordFault.TheVariants.{ShortBuffer}
+use Rattle.reader.specs.declared.faults.ReadFault.TheVariants.{ShortBuffer}
 use Rattle.records.specs.declared.kinds.Kind.{Kind}
 use Rattle.records.specs.Apart.{passed_up, first_end}
 use Rattle.records.specs.Laws.{IsRecord}

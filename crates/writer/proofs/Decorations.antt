@@ -9,11 +9,11 @@ use Rattle.tokens.specs.declared.lexer.Token.TheVariants as token
 use Rattle.tokens.specs.Tokens.{Tok, opens, closes, word, good, bad, items, next}
 use Rattle.tokens.specs.Shown.{shown}
 use Rattle.tokens.proofs.Items.{items_none, items_bad, items_good}
-use Rattle.groups.specs.declared.faults.GroupFault.TheVariants.{TooDeep, Unbalanced}
+use Rattle.groups.specs.declared.faults.GroupFault.TheVariants.{TooDeep}
 use Rattle.groups.specs.Stack.{top_of, below}
 use Rattle.records.proofs.Alone.{never}
 use Rattle.writer.specs.declared.faults.WriterFault.{WriterFault}
-use Rattle.writer.specs.declared.faults.WriterFault.TheVariants.{Group, MarkerWord, NotPrintable}
+use Rattle.writer.specs.declared.faults.WriterFault.TheVariants.{Group, Unbalanced, MarkerWord, NotPrintable}
 use Rattle.writer.specs.Decoration.{is_printable, printable, markers, among, faulty, passed, sound}
 
 module _ (bytes : List ℕ) (at : ℕ) where
@@ -49,9 +49,9 @@ pub end_none : (bytes gs : List ℕ) → None ≡ top_of gs → Ok tt ≡ sound 
 end_none bytes [] e = refl
 end_none bytes (p ∷ gs) e = never (cc)
 
-pub end_some : (bytes gs : List ℕ) (p : ℕ) → Some p ≡ top_of gs → Err (Group (Unbalanced p)) ≡ sound bytes gs []
+pub end_some : (bytes gs : List ℕ) (p : ℕ) → Some p ≡ top_of gs → Err (Unbalanced p) ≡ sound bytes gs []
 end_some bytes [] p e = never (cc)
-end_some bytes (q ∷ gs) p e = let same : p ≡ q = cc in ap (λ x. Err (Group (Unbalanced x))) same
+end_some bytes (q ∷ gs) p e = let same : p ≡ q = cc in ap (λ x. Err (Unbalanced x)) same
 
 -- What each token does to the open groups.
 module _ (p : ℕ) (gs : List ℕ) (on : List ℕ → Result (Unit {0}) WriterFault) where
@@ -68,10 +68,10 @@ module _ (p : ℕ) (gs : List ℕ) (on : List ℕ → Result (Unit {0}) WriterFa
       by [] e = absurd (false≢true e)
       by (x ∷ hs) e = refl
 
-  pub passed_none : is_some (top_of gs) ≡ false → passed closes p gs on ≡ Err (Group (Unbalanced p))
+  pub passed_none : is_some (top_of gs) ≡ false → passed closes p gs on ≡ Err (Unbalanced p)
   passed_none = by gs
     where
-      by : (hs : List ℕ) → is_some (top_of hs) ≡ false → passed closes p hs on ≡ Err (Group (Unbalanced p))
+      by : (hs : List ℕ) → is_some (top_of hs) ≡ false → passed closes p hs on ≡ Err (Unbalanced p)
       by [] e = refl
       by (x ∷ hs) e = absurd (true≢false e)
 

@@ -4,9 +4,9 @@ use Rattle.std.specs.Str.{bytes_eq}
 use Rattle.tokens.specs.declared.faults.TokenFault.{TokenFault}
 use Rattle.tokens.specs.Names.{name_at}
 use Rattle.tokens.specs.Tokens.{Tok, opens, closes, word, hex, symbol, text, Item, good, bad, items}
-use Rattle.groups.specs.declared.faults.GroupFault.TheVariants.{Token, TooDeep, Unbalanced}
+use Rattle.groups.specs.declared.faults.GroupFault.TheVariants.{Token, TooDeep}
 use Rattle.writer.specs.declared.faults.WriterFault.{WriterFault}
-use Rattle.writer.specs.declared.faults.WriterFault.TheVariants.{Group, MarkerWord, NotPrintable}
+use Rattle.writer.specs.declared.faults.WriterFault.TheVariants.{Group, Unbalanced, MarkerWord, NotPrintable}
 
 abbrev pub is_printable : ℕ → Bool
 is_printable b = nat_le 32 b && nat_le b 126
@@ -33,7 +33,7 @@ deeper p ps later = cond (nat_lt (length ps) 63) (later (p ∷ ps)) (Err (Group 
 
 -- A group closes, which has to be one that is open.
 abbrev pub shallower : ℕ → List ℕ → (List ℕ → Result (Unit {0}) WriterFault) → Result (Unit {0}) WriterFault
-shallower p [] later = Err (Group (Unbalanced p))
+shallower p [] later = Err (Unbalanced p)
 shallower p (q ∷ ps) later = later ps
 
 -- One token at a place, where groups are open.
@@ -53,7 +53,7 @@ faulty bs f = unless_marker (name_at f.place bs) f.place (Err (Group (Token f)))
 -- that is left open is met at the end.
 abbrev pub sound : List ℕ → List ℕ → List Item → Result (Unit {0}) WriterFault
 sound bs [] [] = Ok tt
-sound bs (p ∷ ps) [] = Err (Group (Unbalanced p))
+sound bs (p ∷ ps) [] = Err (Unbalanced p)
 sound bs ps (bad f ∷ is) = faulty bs f
 sound bs ps (good t p e ∷ is) = passed t p ps (λ qs. sound bs qs is)
 

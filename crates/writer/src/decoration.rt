@@ -99,7 +99,7 @@ fn check_sound(bytes: &[u8]) -> Result<(), WriterFault>
             }
             Token::Close => {
                 if stack.pop().is_none() {
-                    return Err(WriterFault::from(GroupFault::Unbalanced(found.place)));
+                    return Err(WriterFault::Unbalanced(found.place));
                 }
             }
             Token::Word { name, .. } => {
@@ -111,7 +111,7 @@ fn check_sound(bytes: &[u8]) -> Result<(), WriterFault>
         }
     }
     match stack.top() {
-        Some(place) => Err(WriterFault::from(GroupFault::Unbalanced(place))),
+        Some(place) => Err(WriterFault::Unbalanced(place)),
         None => Ok(()),
     }
 }

@@ -11,6 +11,8 @@ use layers::Layer;
 pub enum WriterFault {
     // A fault of a decoration's groups or of its tokens, passed up whole.
     Group(GroupFault),
+    // A decoration that closes a group which it did not open, or leaves one open: that brace.
+    Unbalanced(usize),
     // A piece that is not UTF-8: the first byte that starts no sequence.
     NotUtf8(usize),
     // A decoration with a word that only the encapsulation itself may have: the word.
@@ -44,6 +46,7 @@ impl WriterFault {
     {
         match self {
             WriterFault::Group(f) => f.number(),
+            WriterFault::Unbalanced(_) => 14,
             WriterFault::NotUtf8(_) => 13,
             WriterFault::MarkerWord(_) => 15,
             WriterFault::NotPrintable(_) => 16,
@@ -60,6 +63,7 @@ impl WriterFault {
     {
         match self {
             WriterFault::Group(f) => f.place(),
+            WriterFault::Unbalanced(at) => *at,
             WriterFault::NotUtf8(at) => *at,
             WriterFault::MarkerWord(at) => *at,
             WriterFault::NotPrintable(at) => *at,
@@ -72,6 +76,7 @@ impl WriterFault {
     {
         match self {
             WriterFault::Group(f) => f.layer(),
+            WriterFault::Unbalanced(_) => Layer::Groups,
             _ => Layer::Writer,
         }
     }

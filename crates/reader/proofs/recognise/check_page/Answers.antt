@@ -1,5 +1,5 @@
 use Rattle.std.proofs.Common.{◌≡◌, ◌-◌, Bool, drop, Some, Option, Result, sym, ap, ◌∙◌, arith}
-use Rattle.records.specs.declared.faults.RecordFault.{RecordFault}
+use Rattle.reader.specs.declared.faults.ReadFault.{ReadFault}
 use Rattle.tokens.specs.Shown.{shown}
 use Rattle.tokens.specs.Tokens.{items}
 use Rattle.reader.specs.Recognition.{declared_by, declared}
@@ -8,7 +8,7 @@ use Rattle.reader.proofs.recognise.check_page.Goals as goal
 use Rattle.reader.proofs.recognise.check_page.Goals.{After-declares}
 
 -- the search after the token that was found
-abbrev later : After-declares → Result (Unit {0}) RecordFault
+abbrev later : After-declares → Result (Unit {0}) ReadFault
 later c = declared c.args.page (c.loop-left.left - 1) (items 0 c.in-Some.found.end (drop c.in-Some.found.end c.args.bytes.now))
 
 by : (c : After-declares) (o : Option Bool) → c.declares.result ≡ o → declared_by o c.in-Some.found.place (later c) ≡ declared c.args.page 10 (items 0 0 c.args.bytes.now)

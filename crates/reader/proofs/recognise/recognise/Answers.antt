@@ -1,5 +1,5 @@
 use Rattle.std.proofs.Common.{◌≡◌, ◌-◌, drop, Result, sym, ◌∙◌, arith}
-use Rattle.records.specs.declared.faults.RecordFault.{RecordFault}
+use Rattle.reader.specs.declared.faults.ReadFault.{ReadFault}
 use Rattle.tokens.specs.Shown.{shown}
 use Rattle.tokens.specs.Tokens.{items}
 use Rattle.records.specs.declared.kinds.Kind.{Kind}
@@ -10,7 +10,7 @@ use Rattle.reader.proofs.recognise.recognise.Goals as goal
 use Rattle.reader.proofs.recognise.recognise.Goals.{In-Some}
 
 -- the search after the token that was found
-abbrev later : In-Some → Result Kind RecordFault
+abbrev later : In-Some → Result Kind ReadFault
 later c = recognised (c.loop-found.left - 1) (items 0 c.in-Some.found.end (drop c.in-Some.found.end c.args.bytes.now))
 
 by : (c : In-Some) (s : Sign) → s ≡ sign_of (shown c.in-Some.found.token) → found s c.loop-found.left c.in-Some.found.place (later c) ≡ recognised 10 (items 0 0 c.args.bytes.now)

@@ -60,7 +60,7 @@ pub returns-then-is_none : goal.returns-then-is_none
 returns-then-is_none c =
     let here = (goal.at.returns-then-is_none c).In-Some in
     let none = passed_none c.in-Some.found.place (stood here) (rest here) (ap is_some (sym c.pop.ensures.value) ∙ c.if-is_none.ensures) in
-    ap Err c.from.ensures ∙ sym none ∙ step here _ c.in-Close.is
+    sym none ∙ step here _ c.in-Close.is
 
 pub loop-found-preserved-else-is_none : goal.loop-found-preserved-else-is_none
 loop-found-preserved-else-is_none c =
@@ -93,7 +93,7 @@ ended bytes at gs o none told walk = sound_end bytes at gs _ walk (subst (λ x. 
 pub returns-in-Some-top : goal.returns-in-Some-top
 returns-in-Some-top c =
     let gs = held c.loop-found.stack.depth c.loop-found.stack.entries.now in
-    ap Err c.from-in-Some-top.ensures ∙ end_some c.args.bytes.now gs c.in-Some-top.place c.in-Some-top.ensures
+    end_some c.args.bytes.now gs c.in-Some-top.place c.in-Some-top.ensures
     ∙ ended c.args.bytes.now c.loop-found.at gs c.in_ok-found.field-0 c.in_default.is c.in_ok-found.ensures.value c.loop-found.invariant.2
 
 pub returns-in-None : goal.returns-in-None
