@@ -4,14 +4,14 @@ use lib.ListN.{length-map}
 use lib.Utf8.{scalar, scalars, encodes, low_scalar}
 use Rattle.std.specs.List.{AllByRecursion}
 use Rattle.std.specs.Str.{bytes_eq}
-use Rattle.std.proofs.lemmas.List.{take_at, drop_at, take_all}
+use Rattle.std.proofs.lemmas.List.{take_at, drop_at}
 use Rattle.std.proofs.lemmas.Bool.{cond-true, cond_both, and_parts, and_from, and_cases, or_cases, leb-true, leb-false, eqb-true, le-leb, lt-ltb}
 use Rattle.tokens.specs.Tokens.{Tok, opens, closes, word, hex, symbol, text, Item, good, bad, items_by, items}
 use Rattle.tokens.specs.declared.faults.Flaw.TheVariants.{LoneBackslash}
 use Rattle.reader.specs.declared.faults.ReadFault.{ReadFault}
 use Rattle.records.specs.Apart.{is_rtf, first_end}
 use Rattle.records.specs.Laws.{IsRecord}
-use Rattle.records.proofs.Alone.{never, first_alone}
+use Rattle.records.proofs.Alone.{never, record_alone}
 use Rattle.reader.specs.declared.assemble.Half.{Half}
 use Rattle.records.specs.declared.kinds.Kind.{Kind}
 use Rattle.records.specs.declared.kinds.Kind.TheVariants.{Html, Text}
@@ -269,9 +269,7 @@ trailing_passes p (b ∷ bs) a = cond-true _ _ _ a.0 ∙ trailing_passes (p + 1)
 -- the sound record of a record with such bytes after it is the record
 sound_trailed : (r tail : List ℕ) → IsRecord r → AllByRecursion (λ b. may_trail b ≡ true) tail → length (r ++ tail) ≤ 32768 → sound_record (r ++ tail) ≡ Ok r
 sound_trailed r tail e a h =
-    let whole : take (length r) r ≡ r = take_all (length r) r (omega arith) in
-    let ends : first_end (r ++ tail) ≡ Ok (length r) = ap (λ l. first_end (l ++ tail)) (sym whole) ∙ first_alone r (length r) e tail ∙ ap (λ l. Ok (length l)) whole in
-    sound_first (r ++ tail) h (length r) (Ok tt) ends (sym (ap (trailing (length r)) (drop_at r tail (length r) refl) ∙ trailing_passes (length r) tail a))
+    sound_first (r ++ tail) h (length r) (Ok tt) (record_alone r tail e) (sym (ap (trailing (length r)) (drop_at r tail (length r) refl) ∙ trailing_passes (length r) tail a))
     ∙ ap Ok (take_at r tail (length r) refl)
 
 sound_alone : (r : List ℕ) → IsRecord r → length r ≤ 32768 → sound_record r ≡ Ok r
