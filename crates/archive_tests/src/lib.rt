@@ -3,16 +3,20 @@
 
 #[cfg(test)]
 mod tests {
-    use layers::Layer;
+    use layers::{Fault, Layer, Refusal};
     use records::{Records, take_apart};
     use std::process::Abort;
     use std::test::Fail;
 
-    // What comes of it: the first record's length, or a refusal with its number, place and layer.
-    #[derive(Clone, Copy, PartialEq, Debug)]
-    enum Outcome {
-        Record(usize),
-        Refused(u8, usize, Layer),
+    // What comes of it: the first record's length, or a refusal.
+    type Outcome = Result<usize, Refusal>;
+
+    fn refused(number: u8, place: usize, layer: Layer) -> Outcome {
+        Err(Refusal {
+            number,
+            place,
+            layer,
+        })
     }
 
     // What a case shows, its bytes, and what comes of it.
@@ -20,10 +24,8 @@ mod tests {
     struct Case(&'static str, &'static str, Outcome);
 
     fn taken_apart(bytes: &[u8]) -> Outcome {
-        match take_apart(bytes) {
-            Ok((record, _)) => Outcome::Record(record.bytes.len()),
-            Err(fault) => Outcome::Refused(fault.number(), fault.place(), fault.layer()),
-        }
+        let (record, _) = take_apart(bytes).map_err(|fault| fault.refusal())?;
+        Ok(record.bytes.len())
     }
 
     fn check_cases(rt: &impl Abort, cases: &[Case]) {
@@ -38,28 +40,20 @@ mod tests {
         check_cases(
             &rt,
             &[
-                Case("no bytes at all", "", Outcome::Refused(1, 0, Layer::Record)),
-                Case(
-                    "five bytes",
-                    "{\\rtf",
-                    Outcome::Refused(1, 0, Layer::Record),
-                ),
-                Case("the six bytes", "{\\rtf1}", Outcome::Record(7)),
+                Case("no bytes at all", "", refused(1, 0, Layer::Record)),
+                Case("five bytes", "{\\rtf", refused(1, 0, Layer::Record)),
+                Case("the six bytes", "{\\rtf1}", Ok(7)),
                 Case(
                     "a digit after them",
                     "{\\rtf12}",
-                    Outcome::Refused(1, 0, Layer::Record),
+                    refused(1, 0, Layer::Record),
                 ),
-                Case("a letter after them", "{\\rtf1x}", Outcome::Record(8)),
-                Case(
-                    "another case",
-                    "{\\RTF1}",
-                    Outcome::Refused(1, 0, Layer::Record),
-                ),
+                Case("a letter after them", "{\\rtf1x}", Ok(8)),
+                Case("another case", "{\\RTF1}", refused(1, 0, Layer::Record)),
                 Case(
                     "layout before them",
                     "\r\n{\\rtf1}",
-                    Outcome::Refused(1, 0, Layer::Record),
+                    refused(1, 0, Layer::Record),
                 ),
             ],
         );
@@ -73,40 +67,32 @@ mod tests {
                 Case(
                     "32 letters",
                     "{\\rtf1\\aaaaaaaaaaaaaaaaaaaaaaaaaaaaaaaa}",
-                    Outcome::Record(40),
+                    Ok(40),
                 ),
                 Case(
                     "33 letters",
                     "{\\rtf1\\aaaaaaaaaaaaaaaaaaaaaaaaaaaaaaaaa}",
-                    Outcome::Refused(2, 6, Layer::Tokens),
+                    refused(2, 6, Layer::Tokens),
                 ),
-                Case("ten digits", "{\\rtf1\\x0000000001}", Outcome::Record(19)),
+                Case("ten digits", "{\\rtf1\\x0000000001}", Ok(19)),
                 Case(
                     "eleven digits",
                     "{\\rtf1\\x00000000001}",
-                    Outcome::Refused(2, 6, Layer::Tokens),
+                    refused(2, 6, Layer::Tokens),
                 ),
-                Case(
-                    "the largest number",
-                    "{\\rtf1\\x2147483647}",
-                    Outcome::Record(19),
-                ),
+                Case("the largest number", "{\\rtf1\\x2147483647}", Ok(19)),
                 Case(
                     "one more",
                     "{\\rtf1\\x2147483648}",
-                    Outcome::Refused(2, 6, Layer::Tokens),
+                    refused(2, 6, Layer::Tokens),
                 ),
-                Case(
-                    "the smallest number",
-                    "{\\rtf1\\x-2147483648}",
-                    Outcome::Record(20),
-                ),
+                Case("the smallest number", "{\\rtf1\\x-2147483648}", Ok(20)),
                 Case(
                     "one less",
                     "{\\rtf1\\x-2147483649}",
-                    Outcome::Refused(2, 6, Layer::Tokens),
+                    refused(2, 6, Layer::Tokens),
                 ),
-                Case("a minus and no digit", "{\\rtf1\\x-}", Outcome::Record(10)),
+                Case("a minus and no digit", "{\\rtf1\\x-}", Ok(10)),
             ],
         );
     }
@@ -119,49 +105,41 @@ mod tests {
                 Case(
                     "a lone backslash at the end",
                     "{\\rtf1\\",
-                    Outcome::Refused(2, 6, Layer::Tokens),
+                    refused(2, 6, Layer::Tokens),
                 ),
                 Case(
                     "a backslash before the brace",
                     "{\\rtf1\\}",
-                    Outcome::Refused(4, 0, Layer::Groups),
+                    refused(4, 0, Layer::Groups),
                 ),
-                Case(
-                    "two hexadecimal digits",
-                    "{\\rtf1\\'4F}",
-                    Outcome::Record(11),
-                ),
+                Case("two hexadecimal digits", "{\\rtf1\\'4F}", Ok(11)),
                 Case(
                     "one digit and the brace",
                     "{\\rtf1a\\'4}",
-                    Outcome::Refused(2, 7, Layer::Tokens),
+                    refused(2, 7, Layer::Tokens),
                 ),
                 Case(
                     "one digit at the end",
                     "{\\rtf1\\'4",
-                    Outcome::Refused(2, 6, Layer::Tokens),
+                    refused(2, 6, Layer::Tokens),
                 ),
                 Case(
                     "a line break between the digits",
                     "{\\rtf1\\'4\r\n1}",
-                    Outcome::Refused(2, 6, Layer::Tokens),
+                    refused(2, 6, Layer::Tokens),
                 ),
-                Case(
-                    "bytes of bin up to the last",
-                    "{\\rtf1\\bin3 }}}}",
-                    Outcome::Record(16),
-                ),
+                Case("bytes of bin up to the last", "{\\rtf1\\bin3 }}}}", Ok(16)),
                 Case(
                     "bytes of bin to the end",
                     "{\\rtf1\\bin4 }}}}",
-                    Outcome::Refused(4, 0, Layer::Groups),
+                    refused(4, 0, Layer::Groups),
                 ),
                 Case(
                     "one byte of bin too many",
                     "{\\rtf1\\bin5 }}}}",
-                    Outcome::Refused(2, 6, Layer::Tokens),
+                    refused(2, 6, Layer::Tokens),
                 ),
-                Case("bin of none", "{\\rtf1\\bin0}", Outcome::Record(12)),
+                Case("bin of none", "{\\rtf1\\bin0}", Ok(12)),
             ],
         );
     }
@@ -174,39 +152,35 @@ mod tests {
                 Case(
                     "64 groups",
                     "{\\rtf1 {{{{{{{{{{{{{{{{{{{{{{{{{{{{{{{{{{{{{{{{{{{{{{{{{{{{{{{{{{{{{{{}}}}}}}}}}}}}}}}}}}}}}}}}}}}}}}}}}}}}}}}}}}}}}}}}}}}}}}}}}}}}}}}",
-                    Outcome::Record(134),
+                    Ok(134),
                 ),
                 Case(
                     "65 groups",
                     "{\\rtf1 {{{{{{{{{{{{{{{{{{{{{{{{{{{{{{{{{{{{{{{{{{{{{{{{{{{{{{{{{{{{{{{{}}}}}}}}}}}}}}}}}}}}}}}}}}}}}}}}}}}}}}}}}}}}}}}}}}}}}}}}}}}}}}}}}",
-                    Outcome::Refused(3, 70, Layer::Groups),
+                    refused(3, 70, Layer::Groups),
                 ),
                 Case(
                     "65 groups, one after the other",
                     "{\\rtf1 {}{}{}{}{}{}{}{}{}{}{}{}{}{}{}{}{}{}{}{}{}{}{}{}{}{}{}{}{}{}{}{}{}{}{}{}{}{}{}{}{}{}{}{}{}{}{}{}{}{}{}{}{}{}{}{}{}{}{}{}{}{}{}{}{}}",
-                    Outcome::Record(138),
+                    Ok(138),
                 ),
                 Case(
                     "a flaw before the 65th",
                     "{\\rtf1\\'x{{{{{{{{{{{{{{{{{{{{{{{{{{{{{{{{{{{{{{{{{{{{{{{{{{{{{{{{{{{{{{{{}}}}}}}}}}}}}}}}}}}}}}}}}}}}}}}}}}}}}}}}}}}}}}}}}}}}}}}}}}}}}}}}}",
-                    Outcome::Refused(2, 6, Layer::Tokens),
+                    refused(2, 6, Layer::Tokens),
                 ),
                 Case(
                     "the first group left open",
                     "{\\rtf1",
-                    Outcome::Refused(4, 0, Layer::Groups),
+                    refused(4, 0, Layer::Groups),
                 ),
                 Case(
                     "an inner group left open",
                     "{\\rtf1{a{}",
-                    Outcome::Refused(4, 6, Layer::Groups),
+                    refused(4, 6, Layer::Groups),
                 ),
-                Case(
-                    "two left open",
-                    "{\\rtf1{a{",
-                    Outcome::Refused(4, 8, Layer::Groups),
-                ),
-                Case("bytes after the record", "{\\rtf1}\\'", Outcome::Record(7)),
+                Case("two left open", "{\\rtf1{a{", refused(4, 8, Layer::Groups)),
+                Case("bytes after the record", "{\\rtf1}\\'", Ok(7)),
             ],
         );
     }
@@ -216,19 +190,19 @@ mod tests {
     fn archives(rt: HostRuntime) -> Result<(), Fail> {
         let archive = "{\\rtf1{a}}{\\rtf1 b}{\\rtf1{\\'4}}";
         let mut records = Records::new(archive.as_bytes());
-        let first = records.next_record().ok_or("no first record")?;
+        let first = records.next().ok_or("no first record")?;
         assert!(rt;
             matches!(first, Ok(record) if record.place == 0 && record.bytes == b"{\\rtf1{a}}".as_slice())
         );
-        let second = records.next_record().ok_or("no second record")?;
+        let second = records.next().ok_or("no second record")?;
         assert!(rt;
             matches!(second, Ok(record) if record.place == 10 && record.bytes == b"{\\rtf1 b}".as_slice())
         );
-        let third = records.next_record().ok_or("no refusal")?;
+        let third = records.next().ok_or("no refusal")?;
         assert!(rt;
             matches!(third, Err(fault) if fault.number() == 2 && fault.place() == 26 && fault.rest == 19)
         );
-        assert!(rt; records.next_record().is_none());
+        assert!(rt; records.next().is_none());
         assert_eq!(rt; Records::new(b"").count(), 0);
         Ok(())
     }

@@ -3,33 +3,28 @@
 // The pile has just enough cards. An argument gives another number of them.
 #![tactic(auto)]
 
-use layers::Layer;
+use layers::Fault;
 use records::Records;
-use sinks::{CARD_SIZE, Card, CardSink, Sink, cards_for, put_all};
+use sinks::{Card, CardSink, Sink, cards_for, put_all};
 use std::io::Read;
 use std::{env, io};
 
 // How many cards to lay out: the argument, if there is one, else just enough. None where the argument is no number.
 fn card_count(rt: &HostRuntime, bytes: usize) -> io::Result<Option<usize>> {
-    let mut args = env::args(rt)?.skip(1);
-    match args.next() {
-        Some(arg) => Ok(arg.as_str().parse::<usize>().ok()),
+    match env::args(rt)?.nth(1) {
+        Some(arg) => Ok(arg.as_str().parse().ok()),
         None => Ok(Some(cards_for(bytes))),
     }
 }
 
-fn print_refusal(rt: &HostRuntime, number: u8, place: usize, layer: Layer) -> io::Result<()> {
-    let layer = layer.name();
-    println!(rt; "refused {number} at {place} in {layer}")
-}
-
 // Takes apart what came back, and prints how many records it has.
 fn print_records(rt: &HostRuntime, archive: &[u8]) -> io::Result<()> {
+    // Not `filter` and `count`: a count is proved only where it is bounded, and no contract bounds the number of records.
     let mut records = 0u64;
     for step in Records::new(archive) {
         match step {
             Ok(_) => records = records.saturating_add(1),
-            Err(fault) => print_refusal(rt, fault.number(), fault.place(), fault.layer())?,
+            Err(fault) => println!(rt; "{}", fault.refusal())?,
         }
     }
     println!(rt; "{records} records came apart")
@@ -39,27 +34,24 @@ fn print_records(rt: &HostRuntime, archive: &[u8]) -> io::Result<()> {
 fn print_unloaded(rt: &HostRuntime, pile: &CardSink<'_>, archive: &[u8]) -> io::Result<()> {
     let mut copy = vec![in rt.alloc(); 0u8; archive.len()]?;
     if let Err(fault) = pile.unload(&mut copy) {
-        return print_refusal(rt, fault.number(), fault.place(), fault.layer());
+        return println!(rt; "{}", fault.refusal());
     }
-    if copy.as_slice() == archive {
-        println!(rt; "the bytes came back the same")?;
+    let how = if copy.as_slice() == archive {
+        "the same"
     } else {
-        println!(rt; "the bytes came back different")?;
-    }
+        "different"
+    };
+    println!(rt; "the bytes came back {how}")?;
     print_records(rt, &copy)
 }
 
 fn main(rt: HostRuntime) -> io::Result<()> {
     let mut archive = Vec::new(rt.alloc());
     rt.stdin().read_to_end(&mut archive)?;
-    let blank = Card {
-        count: 0,
-        data: [0; CARD_SIZE],
-    };
     let Some(count) = card_count(&rt, archive.len())? else {
         return println!(rt; "the argument is no number of cards");
     };
-    let mut cards = vec![in rt.alloc(); blank; count]?;
+    let mut cards = vec![in rt.alloc(); Card::BLANK; count]?;
     let mut pile = CardSink::new(&mut cards);
     if put_all(&mut pile, &archive).is_err() {
         let space = pile.space();

@@ -1,10 +1,10 @@
 -- What a stack holds, by the depth and the entries that it is over.
-use Rattle.std.proofs.Common.{◌≡◌, ℕ, ◌+◌, ◌-◌, ◌<◌, ◌≤◌, min, true, List, [], ◌∷◌, reverse, length, get_or, take, set, is_err, Ok, Err, Result, sym, ap, ◌∙◌, ⊎_elim, arith, length-take}
+use Rattle.std.proofs.Common.{◌≡◌, ℕ, zero, suc, ◌+◌, ◌-◌, ◌<◌, ◌≤◌, min, true, List, [], ◌∷◌, reverse, length, get_or, take, set, is_err, Ok, Err, Result, sym, refl, ap, ◌∙◌, ⊎_elim, arith, length-take}
 use mathlib.Core.List.{reverse-append}
 use Rattle.std.proofs.lemmas.Bool.{cases_lt, false≢true}
 use Rattle.std.proofs.lemmas.List.{take_all, take_more, take_more_set, length-reverse, length-set, nil_from_length, get_or-set_same, take-set}
 use Rattle.groups.specs.declared.faults.GroupFault.{GroupFault}
-use Rattle.groups.specs.Stack.{held, room, Pushed}
+use Rattle.groups.specs.Stack.{held, below, room, Pushed}
 
 module _ {E : Type 0} (xs : List E) (depth : ℕ) where
   pub held_length : length (held depth xs) ≡ min depth (length xs)
@@ -39,6 +39,11 @@ module _ {E : Type 0} (xs : List E) (depth : ℕ) where
         let e : d ≡ d - 1 + 1 = omega (arith, ne) in
         same_held ∙ ap (λ n. held n xs) e ∙ ap reverse (take_more xs (d - 1) x (omega (arith, ne)))
         ∙ reverse-append (take (d - 1) xs) (get_or xs (d - 1) x ∷ [])
+
+-- what is left when the top is taken off
+pub held_below : {E : Type 0} (xs : List E) (depth d : ℕ) → d ≡ length (held depth xs) → E → held (d - 1) xs ≡ below (held depth xs)
+held_below xs depth zero is x = sym (ap below (held_none xs depth zero is refl))
+held_below xs depth (suc d) is x = sym (ap below (held_some xs depth (suc d) is x (λ e. omega arith)))
 
 -- another entry on top
 pub held_topped : {E : Type 0} (xs : List E) (depth d : ℕ) → d ≡ length (held depth xs) → (x : E) → (d ≡ 0 → ⊥) → held depth (set xs (d - 1) x) ≡ x ∷ held (d - 1) xs

@@ -3,7 +3,7 @@ ghost use Rattle.std.specs.Prelude.{◌≡◌};
 ghost use Rattle.groups.specs.Faults.{number_of, place_of, layer_of};
 ghost use Rattle.groups.specs.declared.faults.GroupFault.TheVariants.{Token as ByToken};
 
-use layers::Layer;
+use layers::{Fault, Layer};
 use tokens::TokenFault;
 
 // A fault of the groups or of a token below them.
@@ -17,7 +17,7 @@ pub enum GroupFault {
     Unclosed(usize),
 }
 
-// Lets `?` pass a token's fault up.
+// Lets `?` pass a token's fault up. Written out, since contracts name the fault that comes of it.
 impl From<TokenFault> for GroupFault {
     ghost from_gives = { λ e r. r ≡ ByToken e };
 
@@ -26,10 +26,14 @@ impl From<TokenFault> for GroupFault {
     }
 }
 
-impl GroupFault {
-    pub fn number(&self) -> u8
-        ensures { result ≡ number_of self.now }
-    {
+impl Fault for GroupFault {
+    ghost number = { number_of };
+
+    ghost place = { place_of };
+
+    ghost layer = { layer_of };
+
+    fn number(&self) -> u8 {
         match self {
             GroupFault::Token(f) => f.number(),
             GroupFault::TooDeep(_) => 3,
@@ -37,9 +41,7 @@ impl GroupFault {
         }
     }
 
-    pub fn place(&self) -> usize
-        ensures { result ≡ place_of self.now }
-    {
+    fn place(&self) -> usize {
         match self {
             GroupFault::Token(f) => f.place(),
             GroupFault::TooDeep(at) => *at,
@@ -47,9 +49,7 @@ impl GroupFault {
         }
     }
 
-    pub fn layer(&self) -> Layer
-        ensures { result ≡ layer_of self.now }
-    {
+    fn layer(&self) -> Layer {
         match self {
             GroupFault::Token(f) => f.layer(),
             GroupFault::TooDeep(_) => Layer::Groups,

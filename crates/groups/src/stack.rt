@@ -24,7 +24,8 @@ impl Opening for usize {
 // How many groups may be open at once, however many entries are lent.
 pub const MAX_OPEN: usize = 64;
 
-// The open groups: the first `depth` entries, or all of them where `depth` is beyond the last.
+// The open groups: the first `depth` entries, or all of them where `depth` is beyond the last. The entries are lent and
+// counted beside, since no heap is used; and a model of this would be all of its fields again, so contracts name these.
 #[derive(Drop)]
 pub struct Stack<'a, E> {
     entries: &'a mut [E],
@@ -62,24 +63,16 @@ impl<'a, E: Opening + Copy> Stack<'a, E> {
         ensures value { result ≡ top_of (held self.old.depth self.old.entries.now) }
         ensures after { held self.new.depth self.new.entries.now ≡ below (held self.old.depth self.old.entries.now) }
     {
-        let depth = self.depth();
-        if depth == 0 {
-            return None;
-        }
-        self.depth = depth - 1;
-        Some(self.entries[depth - 1])
+        let entry = self.top()?;
+        self.depth = self.depth() - 1;
+        Some(entry)
     }
 
     // The top entry, if there is one.
     pub fn top(&self) -> Option<E>
         ensures { result ≡ top_of (held self.now.depth self.now.entries.now) }
     {
-        let depth = self.depth();
-        if depth == 0 {
-            return None;
-        }
-        let entries: &[E] = self.entries;
-        Some(entries[depth - 1])
+        self.entries[..self.depth()].last().copied()
     }
 
     // Puts another entry in the place of the top one, if there is one.

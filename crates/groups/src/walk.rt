@@ -4,7 +4,7 @@ ghost use Rattle.groups.specs.Groups.{group_end};
 
 use crate::faults::GroupFault;
 use crate::stack::{MAX_OPEN, Stack};
-use tokens::{Token, next_token};
+use tokens::{Brace, next_brace};
 
 // The place after the brace that closes the group whose brace stands at `place`.
 pub fn group_end(bytes: &[u8], place: usize) -> Result<usize, GroupFault>
@@ -17,20 +17,21 @@ pub fn group_end(bytes: &[u8], place: usize) -> Result<usize, GroupFault>
     let mut room = [0; MAX_OPEN];
     let mut stack = Stack::new(&mut room);
     stack.push(place)?;
+    // The place after a brace is known once it is found, so no range counts it.
     let mut at = place + 1;
-    while let Some(found) = next_token(bytes, at)? {
-        at = found.end;
-        match found.token {
-            Token::Open => {
-                stack.push(found.place)?;
+    while let Some(brace) = next_brace(bytes, at)? {
+        match brace {
+            Brace::Open(opened) => {
+                stack.push(opened)?;
+                at = opened + 1;
             }
-            Token::Close => {
+            Brace::Close(closed) => {
+                at = closed + 1;
                 let _ = stack.pop();
                 if stack.depth() == 0 {
                     return Ok(at);
                 }
             }
-            _ => {}
         }
     }
     Err(GroupFault::Unclosed(stack.top().unwrap_or(0)))

@@ -1,8 +1,15 @@
-// The layers of the format: each fault belongs to one.
+// The layers of the format, and what each refusal tells: its number, the place where it was met, and the layer that refuses.
 #![tactic(auto)]
 
-ghost use Rattle.std.specs.Prelude.{◌≡◌};
+mod fault;
+mod refusal;
+
+ghost use Rattle.std.specs.Prelude.{◌≡◌, Some};
 ghost use Rattle.layers.specs.Layers.{name_of};
+
+pub use fault::Fault;
+pub use refusal::Refusal;
+use std::fmt;
 
 #[derive(Clone, Copy, PartialEq, Eq, Debug)]
 pub enum Layer {
@@ -25,5 +32,14 @@ impl Layer {
             Layer::Writer => "writer",
             Layer::Sink => "sink",
         }
+    }
+}
+
+// Prints the layer's name.
+impl fmt::Display for Layer {
+    ghost output = { λ layer. Some (name_of layer) };
+
+    fn fmt<W: fmt::Write>(&self, f: &mut fmt::Formatter<W>) -> fmt::Result {
+        f.write_str(self.name())
     }
 }

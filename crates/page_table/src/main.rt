@@ -2,30 +2,32 @@
 #![tactic(auto)]
 
 mod listed;
+mod mapping;
 mod trial;
 
-use listed::{Mapping, parse_mapping};
+use listed::Listed;
+use mapping::NoMapping;
 use pages::{Ascii20127, CodePage, Windows1251, Windows1252};
 use std::io;
 use std::io::{BufRead, BufReader};
 use trial::Tally;
 
 // Reads the list, and says of each line that is no mapping that it cannot be read.
-fn read_list(rt: &HostRuntime) -> io::Result<Vec<Mapping>> {
+fn read_list(rt: &HostRuntime) -> io::Result<Listed> {
     let heap = rt.alloc();
-    let mut mappings = Vec::new(heap);
+    let mut list = Listed::new(heap);
     for line in BufReader::new(heap, rt.stdin())?.lines(heap) {
         let line = line?;
-        match parse_mapping(line.as_str()) {
-            Some(mapping) => mappings.push(mapping)?,
-            None => println!(rt; "this line cannot be read: {line}")?,
+        match line.as_str().parse() {
+            Ok(mapping) => list.add(mapping)?,
+            Err(NoMapping) => println!(rt; "this line cannot be read: {line}")?,
         }
     }
-    Ok(mappings)
+    Ok(list)
 }
 
 // Tries a page, and prints what came of it.
-fn report<P: CodePage>(rt: &HostRuntime, page: &P, list: &[Mapping]) -> io::Result<()> {
+fn report<P: CodePage>(rt: &HostRuntime, page: &P, list: &Listed) -> io::Result<()> {
     let number = page.number();
     let Tally {
         have: bytes,
@@ -43,7 +45,7 @@ fn report<P: CodePage>(rt: &HostRuntime, page: &P, list: &[Mapping]) -> io::Resu
 
 fn main(rt: HostRuntime) -> io::Result<()> {
     let list = read_list(&rt)?;
-    report(&rt, &Windows1252, list.as_slice())?;
-    report(&rt, &Windows1251, list.as_slice())?;
-    report(&rt, &Ascii20127, list.as_slice())
+    report(&rt, &Windows1252, &list)?;
+    report(&rt, &Windows1251, &list)?;
+    report(&rt, &Ascii20127, &list)
 }

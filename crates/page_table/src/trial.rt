@@ -1,56 +1,44 @@
 // Tries a page on every byte, and on every character below a limit, and counts.
 ghost use Rattle.std.specs.Prelude.{◌≤◌};
 
-use crate::listed::{Mapping, listed_byte, listed_character};
+use crate::listed::Listed;
 use pages::CodePage;
 
-// The characters below this are tried: all that the pages have are, and no surrogate is.
-const LIMIT: u32 = 0x3000;
+// The characters below this are tried: all that the pages have are.
+const LIMIT: char = '\u{3000}';
 
 // How many have a partner on the page, and how many have another on the list.
 #[derive(Clone, Copy)]
 pub struct Tally {
-    pub have: u32,
-    pub differ: u32,
+    pub have: usize,
+    pub differ: usize,
 }
 
 // Each byte, with its character.
-pub fn decode_all<P: CodePage>(page: &P, list: &[Mapping]) -> Tally
+pub fn decode_all<P: CodePage>(page: &P, list: &Listed) -> Tally
     ensures { result.differ ≤ 256 }
 {
     let number = page.number();
-    let mut have = 0u32;
-    let mut differ = 0u32;
-    for byte in 0..=u8::MAX {
-        let decoded = page.decode(byte);
-        if decoded.is_some() {
-            have += 1;
-        }
-        if listed_character(list, number, byte) != Some(decoded) {
-            differ += 1;
-        }
-    }
+    let have = (0..=u8::MAX)
+        .filter(|byte| page.decode(*byte).is_some())
+        .count();
+    let differ = (0..=u8::MAX)
+        .filter(|byte| list.character(number, *byte) != Some(page.decode(*byte)))
+        .count();
     Tally { have, differ }
 }
 
-// Each character, with its byte.
-pub fn encode_all<P: CodePage>(page: &P, list: &[Mapping]) -> Tally
+// Each character, with its byte. One function for both would be no plainer: the list also has bytes with no character, but no character
+// with no byte, so its two answers are compared differently.
+pub fn encode_all<P: CodePage>(page: &P, list: &Listed) -> Tally
     ensures { result.differ ≤ 0x3000 }
 {
     let number = page.number();
-    let mut have = 0u32;
-    let mut differ = 0u32;
-    for code in 0..LIMIT {
-        let Some(character) = char::from_u32(code) else {
-            continue;
-        };
-        let encoded = page.encode(character);
-        if encoded.is_some() {
-            have += 1;
-        }
-        if listed_byte(list, number, character) != encoded {
-            differ += 1;
-        }
-    }
+    let have = ('\0'..LIMIT)
+        .filter(|character| page.encode(*character).is_some())
+        .count();
+    let differ = ('\0'..LIMIT)
+        .filter(|character| list.byte(number, *character) != page.encode(*character))
+        .count();
     Tally { have, differ }
 }

@@ -1,7 +1,6 @@
 pub mod Page
 pub mod Ascii
 pub mod Windows
-pub mod Table
 pub mod Examples
 pub mod Computed
 pub mod Distinct

@@ -32,14 +32,10 @@ impl CodePage for Ascii20127 {
     }
 
     fn decode(&self, byte: u8) -> Option<char> {
-        if byte < 128 { Some(byte as char) } else { None }
+        byte.is_ascii().then(|| char::from(byte))
     }
 
     fn encode(&self, character: char) -> Option<u8> {
-        if u32::from(character) < 128 {
-            Some(character as u8)
-        } else {
-            None
-        }
+        character.is_ascii().then(|| character as u8)
     }
 }

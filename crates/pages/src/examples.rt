@@ -1,9 +1,8 @@
-// Worked examples of the pages' meanings.
+// The meanings of the pages at worked examples.
 ghost use Rattle.pages.specs.Examples.{ExamplesOfEachPage};
 
-// The worked examples hold; the answer itself says nothing.
-pub fn pages_as_worked() -> u8
+// A promise and no more: the definitions give what the examples say.
+#[tactic(auto, unfolding(crate::specs::Windows::chars1251, crate::specs::Windows::chars1252))]
+pub fn pages_as_worked()
     ensures { ExamplesOfEachPage }
-{
-    0
-}
+{}

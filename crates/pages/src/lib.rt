@@ -5,11 +5,12 @@ mod ascii;
 mod examples;
 mod page;
 mod table;
-mod table1251;
-mod table1252;
-mod windows;
+mod windows1251;
+mod windows1252;
 
 pub use ascii::Ascii20127;
 pub use examples::pages_as_worked;
 pub use page::CodePage;
-pub use windows::{Windows1251, Windows1252};
+pub use table::TablePage;
+pub use windows1251::Windows1251;
+pub use windows1252::Windows1252;

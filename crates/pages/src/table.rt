@@ -1,26 +1,78 @@
-// Code pages by a table: the entry at a byte is the byte's character. The logic of all such pages.
-ghost use Rattle.std.specs.Prelude.{◌≡◌};
-ghost use Rattle.pages.specs.Table.{char_in, byte_in};
+// Code pages that are given by a table of their characters.
+ghost use Rattle.std.specs.Prelude.{◌≡◌, ℕ, ◌<◌, ◌≤◌, List, Option};
+ghost use Rattle.pages.specs.Page.{char_of, byte_of};
+ghost use Rattle.pages.specs.Computed as computed;
+ghost use Rattle.pages.specs.Computed.{Computed};
+ghost use Rattle.pages.specs.Distinct as distinct;
+ghost use Rattle.pages.specs.Distinct.{Stands};
 
-// The entry of a byte with no character. It is a surrogate, which no `char` is, so it is never taken for one.
-pub const NONE: u16 = 0xD800;
+use crate::page::CodePage;
 
-// The character of a byte.
-pub fn char_in(table: &[u16; 256], byte: u8) -> Option<char>
-    ensures { result ≡ char_in table.now byte }
-{
-    char::from_u32(u32::from(table[usize::from(byte)]))
+// The entries of a table by byte: the byte's character, or `None` where it has none.
+macro_rules! characters {
+    ($($entry:tt),* $(,)?) => { [$(characters!(@ $entry)),*] };
+    (@ None) => { None };
+    (@ $character:literal) => { Some($character) };
 }
 
-// The first byte that has this character.
-pub fn byte_in(table: &[u16; 256], character: char) -> Option<u8>
-    ensures { result ≡ byte_in table.now character }
-{
-    let sought = u32::from(character);
-    for byte in 0u16..256 {
-        if u32::from(table[usize::from(byte)]) == sought {
-            return Some(byte as u8);
-        }
+pub(crate) use characters;
+
+// A page that is given by a table. It then is a code page, by the one impl below.
+pub trait TablePage {
+    // The number that names the page.
+    const NUMBER: u16;
+
+    ghost NUMBER: { ℕ };
+
+    // The characters by byte.
+    ghost characters: { List (Option ℕ) };
+
+    fn table() -> &'static [Option<char>; 256]
+        ensures { result.now ≡ characters };
+
+    // The number fits in 16 bits, and 0 names no page.
+    ghost in_range: { (1 ≤ NUMBER) × (NUMBER ≤ 65535) };
+
+    // What is computed once of the whole table: the laws of a code page follow from it.
+    ghost facts: { Computed characters };
+}
+
+impl<T: TablePage> CodePage for T {
+    ghost number = { λ _. T.NUMBER };
+
+    ghost decoded = { λ _ b. char_of T.characters b };
+
+    ghost encoded = { λ _ c. byte_of T.characters c };
+
+    ghost numbered = { λ _. T.in_range };
+
+    ghost ascii = { λ _ b h. computed.ascii _ T.facts b h };
+
+    ghost there = { λ _ b c e. distinct.there _ T.facts.once b c e };
+
+    ghost back = { λ _ b c e. distinct.back _ b c e };
+
+    ghost bytes = { λ _ b c e. computed.bytes _ T.facts b c e };
+
+    ghost scalars = { λ _ b c e. computed.scalars _ T.facts b c e };
+
+    fn number(&self) -> u16 {
+        T::NUMBER
     }
-    None
+
+    fn decode(&self, byte: u8) -> Option<char> {
+        T::table()[usize::from(byte)]
+    }
+
+    fn encode(&self, character: char) -> Option<u8> {
+        place_of(T::table(), character).map(|place| place as u8)
+    }
+}
+
+// A place at which the character stands: since none stands twice it is the first, which the page's meaning names.
+// It is sought from the back, since writing asks for characters beyond ASCII, and these stand there.
+fn place_of(table: &[Option<char>; 256], character: char) -> Option<usize>
+    ensures { Stands table.now character result }
+{
+    table.iter().rposition(|entry| *entry == Some(character))
 }

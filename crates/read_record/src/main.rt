@@ -1,8 +1,9 @@
 // Reads one record from standard input in code page 1252, and writes its content, or why it is refused.
 #![tactic(auto)]
 
+use layers::Fault;
 use pages::{CodePage, Windows1252};
-use reader::{ReadFault, read};
+use reader::read;
 use std::io;
 use std::io::{Read, Write};
 
@@ -11,13 +12,6 @@ const ROOM: usize = 98_304;
 
 // One byte more than reading takes, so that a longer input is seen to be longer.
 const MOST: u64 = 32_769;
-
-fn print_refusal(rt: &HostRuntime, fault: ReadFault) -> io::Result<()> {
-    let number = fault.number();
-    let place = fault.place();
-    let layer = fault.layer().name();
-    println!(rt; "refused {number} at {place} in {layer}")
-}
 
 fn main(rt: HostRuntime) -> io::Result<()> {
     let mut bytes = Vec::new(rt.alloc());
@@ -28,6 +22,6 @@ fn main(rt: HostRuntime) -> io::Result<()> {
             content.truncate(reading.length);
             rt.stdout().write_all(&content)
         }
-        Err(fault) => print_refusal(&rt, fault),
+        Err(fault) => println!(rt; "{}", fault.refusal()),
     }
 }

@@ -1,232 +1,216 @@
 // The content of a record's tokens, token by token.
-use crate::names::{Name, Sign, symbol_sign};
-use crate::scan::{Placed, Token};
-use crate::second::Page;
+use crate::signs::{Sign, is_silent, symbol_sign, word_sign};
+use layers::Refusal;
+use records::Kind;
 use std::alloc::Global;
-use trials::{Refusal, Stop};
+use trials::{Page, Placed, Reason, Stop, Token};
+
+// What a group is to its content.
+#[derive(Clone, Copy, PartialEq, Eq)]
+enum Role {
+    Plain,
+    // What it has is the content of a tag.
+    Tag,
+    // What it has is no content.
+    Silent,
+}
 
 // What a group has of its own.
 #[derive(Clone, Copy)]
 struct Group {
-    silent: bool,
-    tag: bool,
+    role: Role,
     suppressed: bool,
-    fallback: i64,
+    fallback: u32,
 }
 
 // A high half that waits for its low half.
 #[derive(Clone, Copy)]
 struct Half {
-    unit: i64,
+    unit: u16,
     place: usize,
 }
 
 #[derive(Drop)]
 struct Composer<'a> {
     page: &'a Page,
-    html: bool,
+    kind: Kind,
     // The groups around the innermost one.
     outer: Vec<Group>,
     group: Group,
     // Fallback tokens still to be skipped.
-    skip: i64,
+    skip: u32,
     half: Option<Half>,
-    content: Vec<u8>,
+    content: String,
 }
 
-pub fn compose(heap: Global, tokens: &[Placed], html: bool, page: &Page) -> Result<Vec<u8>, Stop> {
+// The last token is the brace that closes the record, and adds nothing.
+pub fn compose(
+    heap: Global,
+    tokens: &[Placed<'_>],
+    kind: Kind,
+    page: &Page,
+) -> Result<String, Stop> {
     let mut composer = Composer {
         page,
-        html,
+        kind,
         outer: Vec::new(heap),
         group: Group {
-            silent: false,
-            tag: false,
+            role: Role::Plain,
             suppressed: false,
             fallback: 1,
         },
         skip: 0,
         half: None,
-        content: Vec::new(heap),
+        content: String::new(heap),
     };
-    for (index, placed) in tokens.iter().enumerate() {
-        let tag_next = is_tag(tokens.get(index.saturating_add(1)));
-        composer.take(placed, tag_next)?;
+    for pair in tokens.windows(2) {
+        if let [placed, next] = pair {
+            composer.take(placed, next.token)?;
+        }
     }
     composer.part()?;
     Ok(composer.content)
 }
 
-fn is_tag(next: Option<&Placed>) -> bool {
-    match next {
-        Some(placed) => matches!(placed.token, Token::Word(Name::HtmlTag, _)),
-        None => false,
-    }
-}
-
 impl Composer<'_> {
-    fn take(&mut self, placed: &Placed, tag_next: bool) -> Result<(), Stop> {
+    fn take(&mut self, placed: &Placed<'_>, next: Token<'_>) -> Result<(), Stop> {
         match placed.token {
             Token::Open => {
                 self.skip = 0;
                 self.outer.push(self.group)?;
-                Ok(())
             }
             Token::Close => {
                 self.skip = 0;
                 self.group = self.outer.pop().unwrap_or(self.group);
-                Ok(())
             }
-            _ if self.skip > 0 => {
-                self.skip = self.skip.saturating_sub(1);
-                Ok(())
-            }
-            _ if self.group.silent => Ok(()),
-            token => self.heard(token, placed.place, tag_next),
+            _ if self.skip > 0 => self.skip -= 1,
+            _ if self.group.role == Role::Silent => {}
+            token => self.heard(token, placed.place, next)?,
         }
+        Ok(())
     }
 
     // A token that is neither skipped nor in a silent group.
-    fn heard(&mut self, token: Token, place: usize, tag_next: bool) -> Result<(), Stop> {
-        let rtf = matches!(token, Token::Word(Name::HtmlRtf, _));
-        if self.html && self.group.suppressed && !rtf {
-            return Ok(());
+    fn heard(&mut self, token: Token<'_>, place: usize, next: Token<'_>) -> Result<(), Stop> {
+        let html = self.kind.is_html();
+        match (token, self.group.role) {
+            (Token::Word("htmlrtf", number), Role::Plain) if html => {
+                self.group.suppressed = number != Some(0);
+            }
+            _ if html && self.group.suppressed => {}
+            (Token::Symbol(b'*'), Role::Plain) => {
+                let tag = html && matches!(next, Token::Word("htmltag", _));
+                self.group.role = if tag { Role::Tag } else { Role::Silent };
+            }
+            (Token::Word(name, _), Role::Plain) if is_silent(name) => {
+                self.group.role = Role::Silent;
+            }
+            _ => self.plain(token, place)?,
         }
-        if !self.group.tag {
-            if self.html && rtf {
-                self.group.suppressed = !matches!(token, Token::Word(_, Some(0)));
-                return Ok(());
-            }
-            if matches!(token, Token::Symbol(b'*')) {
-                if self.html && tag_next {
-                    self.group.tag = true;
-                } else {
-                    self.group.silent = true;
-                }
-                return Ok(());
-            }
-            if matches!(token, Token::Word(Name::Silent, _)) {
-                self.group.silent = true;
-                return Ok(());
-            }
-        }
-        self.plain(token, place)
+        Ok(())
     }
 
     // A token that may add to the content.
-    fn plain(&mut self, token: Token, place: usize) -> Result<(), Stop> {
+    fn plain(&mut self, token: Token<'_>, place: usize) -> Result<(), Stop> {
         match token {
             Token::Hex(byte) | Token::Text(byte) => self.byte(byte, place),
             Token::Symbol(b'\r' | b'\n') => self.text("\r\n"),
             Token::Symbol(b'{') => self.text("{"),
             Token::Symbol(b'}') => self.text("}"),
             Token::Symbol(b'\\') => self.text("\\"),
-            Token::Symbol(symbol) => match symbol_sign(symbol) {
-                Some(sign) => self.sign(sign),
-                None => Ok(()),
-            },
+            Token::Symbol(symbol) => self.sign(symbol_sign(symbol)),
             Token::Word(name, number) => self.word(name, number, place),
             Token::Open | Token::Close => Ok(()),
         }
     }
 
-    fn word(&mut self, name: Name, number: Option<i64>, place: usize) -> Result<(), Stop> {
+    fn word(&mut self, name: &str, number: Option<i32>, place: usize) -> Result<(), Stop> {
         match (name, number) {
-            (Name::Break, _) => self.text("\r\n"),
-            (Name::Tab, _) => self.text("\t"),
-            (Name::Sign(sign), _) => self.sign(sign),
-            (Name::Fallback, Some(count)) => {
-                if count >= 0 {
-                    self.group.fallback = count;
-                }
+            ("par" | "line", _) => self.text("\r\n"),
+            ("tab", _) => self.text("\t"),
+            ("uc", Some(count)) => {
+                self.group.fallback = u32::try_from(count).unwrap_or(self.group.fallback);
                 Ok(())
             }
-            (Name::Unicode, Some(unit)) => {
+            ("u", Some(number)) => {
                 self.skip = self.group.fallback;
-                self.unit(unit, place)
+                self.unit(number, place)
             }
-            _ => Ok(()),
+            _ => self.sign(word_sign(name)),
         }
     }
 
     // A high half that waited has met something else than its low half.
-    fn part(&self) -> Result<(), Stop> {
+    fn part(&self) -> Result<(), Refusal> {
         match self.half {
-            Some(half) => Err(Stop::Refused(Refusal::of_record(10, half.place))),
+            Some(half) => Err(Reason::LoneHalf.at(half.place)),
             None => Ok(()),
         }
     }
 
     fn text(&mut self, text: &str) -> Result<(), Stop> {
         self.part()?;
-        self.content.extend_from_slice(text.as_bytes())?;
+        self.content.push_str(text)?;
         Ok(())
     }
 
-    fn sign(&mut self, sign: Sign) -> Result<(), Stop> {
-        if self.html {
-            self.text(sign.entity)
-        } else {
-            self.part()?;
-            self.character(sign.character)
+    // A character that has a name in HTML, if there is one.
+    fn sign(&mut self, sign: Option<Sign>) -> Result<(), Stop> {
+        match sign {
+            Some(sign) if self.kind.is_html() => self.text(sign.entity),
+            Some(sign) => {
+                self.part()?;
+                self.content.push(sign.character)?;
+                Ok(())
+            }
+            None => Ok(()),
         }
     }
 
     fn byte(&mut self, byte: u8, place: usize) -> Result<(), Stop> {
         self.part()?;
-        match self.page.character(byte) {
-            Some(character) => self.character(character),
-            None => Err(Stop::Refused(Refusal::of_record(8, place))),
-        }
-    }
-
-    fn character(&mut self, character: char) -> Result<(), Stop> {
-        let mut room = [0u8; 4];
-        let text = character.encode_utf8(&mut room);
-        self.content.extend_from_slice(text.as_bytes())?;
+        let character = self.page.character(byte);
+        let character = character.ok_or(Reason::NoCharacter.at(place))?;
+        self.content.push(character)?;
         Ok(())
     }
 
     // The unit of a `\u`, by its number as written.
-    fn unit(&mut self, number: i64, place: usize) -> Result<(), Stop> {
-        let unit = match number {
-            0..=65_535 => number,
-            -32_768..=-1 => number.saturating_add(65_536),
-            _ => {
-                self.part()?;
-                return Err(Stop::Refused(Refusal::of_record(9, place)));
-            }
+    fn unit(&mut self, number: i32, place: usize) -> Result<(), Stop> {
+        let Some(unit) = unit_of(number) else {
+            self.part()?;
+            return Err(Reason::NoUnit.at(place).into());
         };
         match (self.half, unit) {
             (Some(half), 0xDC00..=0xDFFF) => {
                 self.half = None;
-                self.pair(half, unit)
+                self.units(&[half.unit, unit], half.place)
             }
-            (Some(half), _) => Err(Stop::Refused(Refusal::of_record(10, half.place))),
             (None, 0xD800..=0xDBFF) => {
                 self.half = Some(Half { unit, place });
                 Ok(())
             }
-            (None, _) => self.code(unit, place),
+            _ => {
+                self.part()?;
+                self.units(&[unit], place)
+            }
         }
     }
 
-    fn pair(&mut self, half: Half, low: i64) -> Result<(), Stop> {
-        let high = half.unit.saturating_sub(0xD800).saturating_mul(0x400);
-        let low = low.saturating_sub(0xDC00);
-        let code = high.saturating_add(low).saturating_add(0x10000);
-        self.code(code, half.place)
-    }
-
-    // A character by its number: only a low half alone is none.
-    fn code(&mut self, code: i64, place: usize) -> Result<(), Stop> {
-        let character = match u32::try_from(code) {
-            Ok(code) => char::from_u32(code),
-            Err(_) => None,
-        };
-        match character {
-            Some(character) => self.character(character),
-            None => Err(Stop::Refused(Refusal::of_record(10, place))),
+    // The character of one unit or of two halves. Only a low half alone has none.
+    fn units(&mut self, units: &[u16], place: usize) -> Result<(), Stop> {
+        for character in char::decode_utf16(units.iter().copied()) {
+            let character = character.map_err(|_| Reason::LoneHalf.at(place))?;
+            self.content.push(character)?;
         }
+        Ok(())
+    }
+}
+
+// A unit may be written with a sign or without.
+fn unit_of(number: i32) -> Option<u16> {
+    match u16::try_from(number) {
+        Ok(unit) => Some(unit),
+        Err(_) => i16::try_from(number).ok().map(|unit| unit.cast_unsigned()),
     }
 }

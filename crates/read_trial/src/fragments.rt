@@ -1,6 +1,6 @@
 // The texts that records are put together from.
 
-pub const STARTS: [&str; 10] = [
+pub const STARTS: &[&str] = &[
     "",
     "{",
     "{\\rtf",
@@ -14,7 +14,7 @@ pub const STARTS: [&str; 10] = [
 ];
 
 // Words that may stand before or between the marks.
-pub const FILLERS: [&str; 10] = [
+pub const FILLERS: &[&str] = &[
     "\\ansi",
     "\\mac",
     "\\deff0",
@@ -28,9 +28,9 @@ pub const FILLERS: [&str; 10] = [
 ];
 
 // What no mark may follow.
-pub const ENDS_OF_SEARCH: [&str; 6] = ["x", "\\*", "\\'41", "{\\info}", " ", "\\~"];
+pub const ENDS_OF_SEARCH: &[&str] = &["x", "\\*", "\\'41", "{\\info}", " ", "\\~"];
 
-pub const MARKS: [&str; 8] = [
+pub const MARKS: &[&str] = &[
     "\\fromhtml1",
     "\\fromhtml1 ",
     "\\fromtext",
@@ -41,7 +41,7 @@ pub const MARKS: [&str; 8] = [
     "\\fromtext0 ",
 ];
 
-pub const PAGES: [&str; 10] = [
+pub const PAGES: &[&str] = &[
     "1252",
     "1251",
     "20127",
@@ -54,7 +54,7 @@ pub const PAGES: [&str; 10] = [
     "2147483647",
 ];
 
-pub const WORDS: [&str; 44] = [
+pub const WORDS: &[&str] = &[
     "par",
     "line",
     "tab",
@@ -101,7 +101,7 @@ pub const WORDS: [&str; 44] = [
     "footer",
 ];
 
-pub const NUMBERS: [&str; 16] = [
+pub const NUMBERS: &[&str] = &[
     "",
     "",
     "",
@@ -120,7 +120,7 @@ pub const NUMBERS: [&str; 16] = [
     "--1",
 ];
 
-pub const BAD_NUMBERS: [&str; 6] = [
+pub const BAD_NUMBERS: &[&str] = &[
     "2147483648",
     "-2147483649",
     "9999999999",
@@ -129,9 +129,9 @@ pub const BAD_NUMBERS: [&str; 6] = [
     "12345678901234567890123",
 ];
 
-pub const DELIMITERS: [&str; 8] = ["", " ", " ", "  ", "\r\n", "\n", ";", "-"];
+pub const DELIMITERS: &[&str] = &["", " ", " ", "  ", "\r\n", "\n", ";", "-"];
 
-pub const SILENT: [&str; 18] = [
+pub const SILENT: &[&str] = &[
     "fonttbl",
     "colortbl",
     "stylesheet",
@@ -152,12 +152,12 @@ pub const SILENT: [&str; 18] = [
     "footnotes",
 ];
 
-pub const SYMBOLS: [&str; 16] = [
+pub const SYMBOLS: &[&str] = &[
     "\\~", "\\_", "\\{", "\\}", "\\\\", "\\\r", "\\\n", "\\\r\n", "\\-", "\\:", "\\|", "\\ ",
     "\\1", "\\0", "\\;", "\\*",
 ];
 
-pub const PLAIN: [&str; 12] = [
+pub const PLAIN: &[&str] = &[
     "a",
     "text",
     "Hello, world",
@@ -173,7 +173,7 @@ pub const PLAIN: [&str; 12] = [
 ];
 
 // Groups with a tag or a silent destination, whole.
-pub const GROUPS: [&str; 16] = [
+pub const GROUPS: &[&str] = &[
     "{\\*\\htmltag64 <p>}",
     "{\\*\\htmltag <a href=\"x\">}",
     "{\\*\\htmltag4 \\par }",
@@ -192,7 +192,7 @@ pub const GROUPS: [&str; 16] = [
     "{\\*\\Htmltag x}",
 ];
 
-pub const SUPPRESSED: [&str; 8] = [
+pub const SUPPRESSED: &[&str] = &[
     "\\htmlrtf ",
     "\\htmlrtf0 ",
     "\\htmlrtf1 ",
@@ -203,12 +203,12 @@ pub const SUPPRESSED: [&str; 8] = [
     "\\htmlrtf\\u233?\\'e9\\htmlrtf0 ",
 ];
 
-pub const UNITS: [&str; 18] = [
+pub const UNITS: &[&str] = &[
     "0", "9", "65", "127", "128", "233", "2047", "2048", "8364", "55295", "57344", "65533",
     "65535", "-1", "-3", "-8192", "-10241", "-32768",
 ];
 
-pub const BEYOND: [&str; 8] = [
+pub const BEYOND: &[&str] = &[
     "65536",
     "-32769",
     "2147483647",
@@ -219,12 +219,12 @@ pub const BEYOND: [&str; 8] = [
     "0000065536",
 ];
 
-pub const HIGH_HALVES: [&str; 6] = ["-10240", "55296", "-10179", "55357", "-9217", "56319"];
+pub const HIGH_HALVES: &[&str] = &["-10240", "55296", "-10179", "55357", "-9217", "56319"];
 
-pub const LOW_HALVES: [&str; 6] = ["-9216", "56320", "-8704", "56832", "-8193", "57343"];
+pub const LOW_HALVES: &[&str] = &["-9216", "56320", "-8704", "56832", "-8193", "57343"];
 
 // What does no harm between two halves, where one fallback token follows each.
-pub const BETWEEN: [&str; 12] = [
+pub const BETWEEN: &[&str] = &[
     "",
     "",
     "",
@@ -240,9 +240,9 @@ pub const BETWEEN: [&str; 12] = [
 ];
 
 // What parts two halves.
-pub const PARTING: [&str; 6] = ["x", "\\par ", "\\~", "\\'41", "\\u65?", "\\'81"];
+pub const PARTING: &[&str] = &["x", "\\par ", "\\~", "\\'41", "\\u65?", "\\'81"];
 
-pub const FALLBACKS: [&str; 14] = [
+pub const FALLBACKS: &[&str] = &[
     "?",
     "?",
     "?",
@@ -259,7 +259,7 @@ pub const FALLBACKS: [&str; 14] = [
     "{?}",
 ];
 
-pub const FAULTY: [&str; 8] = [
+pub const FAULTY: &[&str] = &[
     "\\'",
     "\\'4",
     "\\'g0",
@@ -270,19 +270,19 @@ pub const FAULTY: [&str; 8] = [
     "\\bin99999 ",
 ];
 
-pub const LONGEST: [&str; 4] = [
+pub const LONGEST: &[&str] = &[
     "\\aaaaaaaaaaaaaaaaaaaaaaaaaaaaaaaa",
     "\\AbcdefghijklmnopqrstuvwxyzABCDEF1 ",
     "\\bin0 ",
     "\\bin-3 ",
 ];
 
-pub const TRAILS: [&str; 8] = ["", "", "", "\r\n", "\0", "\0\r\n\0", "\n\n", "\r\n\r\n\0\0"];
+pub const TRAILS: &[&str] = &["", "", "", "\r\n", "\0", "\0\r\n\0", "\n\n", "\r\n\r\n\0\0"];
 
-pub const BAD_TRAILS: [&str; 6] = [" ", "}", "{\\rtf1}", "\r\nx", "\0\0\t", "\\"];
+pub const BAD_TRAILS: &[&str] = &[" ", "}", "{\\rtf1}", "\r\nx", "\0\0\t", "\\"];
 
 // Ends of bytes in the midst of a token or a group.
-pub const CUT_ENDS: [&str; 8] = [
+pub const CUT_ENDS: &[&str] = &[
     "\\bin3",
     "\\b2147483648",
     "\\bin-2147483649",

@@ -1,171 +1,150 @@
 // Records to try reading on: most are sound, and some are not.
+ghost use Rattle.std.specs.Prelude.{◌<◌, length};
+
 use crate::fragments;
 use std::alloc::{AllocError, Global};
-use trials::Dice;
+use trials::{Dice, Draft, Page};
 
 // A record that grows.
 #[derive(Drop)]
-struct Draft<'a> {
-    dice: &'a mut Dice,
-    bytes: Vec<u8>,
+struct RecordDraft<'a, 'b> {
+    draft: Draft<'a>,
+    page: &'b Page,
+    // How many bytes it is to have, where it is a long one.
+    length: Option<usize>,
     // How many groups are open.
     depth: usize,
-    // Only one in so many fragments may be harmful; none where this is 0.
-    harm: usize,
-    // The bytes below this have a character in the page for sure.
-    safe: usize,
-    // Whether the record is a long one.
-    long: bool,
+    // One in so many fragments may be harmful, where any may.
+    harm: Option<usize>,
 }
 
 // A record for a page. Where a length is given it is that long, and else short.
 pub fn record(
     heap: Global,
     dice: &mut Dice,
-    page: u16,
+    page: &Page,
     length: Option<usize>,
 ) -> Result<Vec<u8>, AllocError> {
-    let long = length.is_some();
-    let harm = match dice.below(if long { 6 } else { 8 }) {
-        0..=4 => 0,
-        5 => 40,
-        6 => 10,
-        _ => 3,
+    let harm = match dice.below(if length.is_some() { 6 } else { 8 }) {
+        0..=4 => None,
+        5 => Some(40),
+        6 => Some(10),
+        _ => Some(3),
     };
-    let safe = if page == 20127 { 128 } else { 256 };
-    let mut draft = Draft {
-        dice,
-        bytes: Vec::new(heap),
+    let mut record = RecordDraft {
+        draft: Draft::new(heap, dice),
+        page,
+        length,
         depth: 1,
         harm,
-        safe,
-        long,
     };
-    draft.head(page)?;
+    record.head()?;
     match length {
-        Some(length) => draft.long_body(length)?,
-        None => draft.body()?,
+        Some(length) => record.long_body(length)?,
+        None => record.body()?,
     }
-    draft.end(length)?;
-    if !long && draft.dice.once_in(12) {
-        draft.damage()?;
+    record.end()?;
+    if length.is_none() && record.draft.dice.once_in(12) {
+        record.damage()?;
     }
-    Ok(draft.bytes)
+    Ok(record.draft.bytes)
 }
 
-impl Draft<'_> {
-    fn text(&mut self, text: &str) -> Result<(), AllocError> {
-        self.bytes.extend_from_slice(text.as_bytes())
-    }
-
-    fn pick(&mut self, texts: &[&'static str]) -> Result<(), AllocError> {
-        let text = self.dice.one_of(texts);
-        self.text(text)
-    }
-
-    fn push(&mut self, byte: u8) -> Result<(), AllocError> {
-        self.bytes.push(byte)?;
-        Ok(())
-    }
-
+impl RecordDraft<'_, '_> {
     // Whether to do harm here.
     fn harmful(&mut self) -> bool {
-        self.harm > 0 && self.dice.once_in(self.harm)
+        self.harm
+            .is_some_and(|times| self.draft.dice.once_in(times))
     }
 
-    fn head(&mut self, page: u16) -> Result<(), AllocError> {
-        if self.dice.once_in(60) {
-            self.pick(&fragments::STARTS)?;
+    fn head(&mut self) -> Result<(), AllocError> {
+        if self.draft.dice.once_in(60) {
+            self.draft.pick(fragments::STARTS)?;
         } else {
-            self.text("{\\rtf1")?;
+            self.draft.put("{\\rtf1")?;
         }
-        if self.dice.once_in(10) {
-            self.odd_marks(page)
+        if self.draft.dice.once_in(10) {
+            self.odd_marks()
         } else {
-            self.marks(page)
+            self.marks()
         }
     }
 
     // The two declarations in either order.
-    fn marks(&mut self, page: u16) -> Result<(), AllocError> {
-        let page_first = self.dice.once_in(2);
+    fn marks(&mut self) -> Result<(), AllocError> {
+        let page_first = self.draft.dice.once_in(2);
         if page_first {
-            self.page(page)?;
+            self.declared_page()?;
         }
-        if self.dice.once_in(2) {
-            self.text("\\fromhtml1 ")?;
+        if self.draft.dice.once_in(2) {
+            self.draft.put("\\fromhtml1 ")?;
         } else {
-            self.text("\\fromtext")?;
+            self.draft.put("\\fromtext")?;
         }
         if !page_first {
-            self.page(page)?;
+            self.declared_page()?;
         }
-        if self.dice.once_in(2) {
-            self.text("\\deff0 ")?;
+        if self.draft.dice.once_in(2) {
+            self.draft.put("\\deff0 ")?;
         }
         Ok(())
     }
 
-    fn page(&mut self, page: u16) -> Result<(), AllocError> {
-        self.text("\\ansicpg")?;
-        if self.dice.once_in(25) {
-            return self.pick(&fragments::PAGES);
-        }
-        match page {
-            1251 => self.text("1251"),
-            1252 => self.text("1252"),
-            _ => self.text("20127"),
+    fn declared_page(&mut self) -> Result<(), AllocError> {
+        self.draft.put("\\ansicpg")?;
+        if self.draft.dice.once_in(25) {
+            self.draft.pick(fragments::PAGES)
+        } else {
+            self.draft.print(self.page.number)
         }
     }
 
     // Declarations with more around them, so that the tenth token may come first.
-    fn odd_marks(&mut self, page: u16) -> Result<(), AllocError> {
+    fn odd_marks(&mut self) -> Result<(), AllocError> {
         self.fillers(10)?;
-        if self.dice.once_in(2) {
-            self.page(page)?;
+        if self.draft.dice.once_in(2) {
+            self.declared_page()?;
         }
-        if self.dice.once_in(4) {
-            self.pick(&fragments::ENDS_OF_SEARCH)?;
+        if self.draft.dice.once_in(4) {
+            self.draft.pick(fragments::ENDS_OF_SEARCH)?;
         }
-        if self.dice.once_in(2) {
+        if self.draft.dice.once_in(2) {
             self.fillers(5)?;
         }
-        self.pick(&fragments::MARKS)?;
-        if self.dice.once_in(2) {
+        self.draft.pick(fragments::MARKS)?;
+        if self.draft.dice.once_in(2) {
             self.fillers(4)?;
         }
-        self.page(page)
+        self.declared_page()
     }
 
     fn fillers(&mut self, limit: usize) -> Result<(), AllocError> {
-        let count = self.dice.below(limit);
-        for _ in 0..count {
-            let filler = self.dice.one_of(&fragments::FILLERS);
-            if filler.as_bytes().first() == Some(&b'{') {
+        for _ in 0..self.draft.dice.below(limit) {
+            let filler = self.draft.dice.one_of(fragments::FILLERS);
+            if filler.starts_with('{') {
                 self.depth = self.depth.saturating_add(1);
             }
-            self.text(filler)?;
+            self.draft.put(filler)?;
         }
         Ok(())
     }
 
     fn body(&mut self) -> Result<(), AllocError> {
-        let most = match self.dice.below(10) {
+        let most = match self.draft.dice.below(10) {
             0 => 2,
             1..=7 => 16,
             _ => 60,
         };
-        let count = self.dice.below(most);
-        for _ in 0..count {
+        for _ in 0..self.draft.dice.below(most) {
             self.fragment()?;
         }
         Ok(())
     }
 
-    // A body that leaves a little to do to the given length.
+    // A body that leaves a little to do to the given length. A fragment may be empty, so their number is limited too.
     fn long_body(&mut self, length: usize) -> Result<(), AllocError> {
         for _ in 0..length {
-            if self.bytes.len().saturating_add(600) > length {
+            if self.draft.bytes.len().saturating_add(600) > length {
                 break;
             }
             self.fragment()?;
@@ -173,12 +152,13 @@ impl Draft<'_> {
         Ok(())
     }
 
+    // The ranges are the odds. A table of closures would show them no plainer, and each would have to be lent `self`.
     fn fragment(&mut self) -> Result<(), AllocError> {
         if self.harmful() {
             return self.harmful_fragment();
         }
-        match self.dice.below(40) {
-            0..=5 => self.pick(&fragments::PLAIN),
+        match self.draft.dice.below(40) {
+            0..=5 => self.draft.pick(fragments::PLAIN),
             6..=9 => self.word(),
             10..=13 => self.hex(),
             14..=16 => self.raw(),
@@ -186,75 +166,75 @@ impl Draft<'_> {
             20..=22 => self.unit(),
             23..=24 => self.pair(),
             25 => self.fallback_number(),
-            26 => self.data(),
+            26 => self.binary(),
             27..=28 => self.open(),
             29..=33 => self.close(),
-            34..=35 => self.pick(&fragments::GROUPS),
-            36..=37 => self.pick(&fragments::SUPPRESSED),
+            34..=35 => self.draft.pick(fragments::GROUPS),
+            36..=37 => self.draft.pick(fragments::SUPPRESSED),
             38 => self.silent(),
-            _ => self.pick(&fragments::LONGEST),
+            _ => self.draft.pick(fragments::LONGEST),
         }
     }
 
+    // The ranges are the odds here too.
     fn harmful_fragment(&mut self) -> Result<(), AllocError> {
-        match self.dice.below(24) {
-            0..=3 => self.pick(&fragments::FAULTY),
+        match self.draft.dice.below(24) {
+            0..=3 => self.draft.pick(fragments::FAULTY),
             4..=5 => self.bad_word(),
             6..=9 => self.beyond(),
-            10..=12 => self.half(&fragments::HIGH_HALVES),
-            13..=14 => self.half(&fragments::LOW_HALVES),
+            10..=12 => self.half(fragments::HIGH_HALVES),
+            13..=14 => self.half(fragments::LOW_HALVES),
             15..=16 => self.parted(),
             17..=19 => self.no_character(),
             20 => self.deep(),
             21 => self.open(),
-            22 => self.text("}"),
-            _ => self.text("\\"),
+            22 => self.draft.put("}"),
+            _ => self.draft.put("\\"),
         }
     }
 
     // Opens a group for what may silence the one it stands in, so that not all of a record is silent.
     fn shelter(&mut self) -> Result<(), AllocError> {
-        if self.depth == 1 && (self.long || self.dice.once_in(2)) {
+        if self.depth == 1 && (self.length.is_some() || self.draft.dice.once_in(2)) {
             self.open()?;
         }
         Ok(())
     }
 
     fn symbol(&mut self) -> Result<(), AllocError> {
-        let symbol = self.dice.one_of(&fragments::SYMBOLS);
+        let symbol = self.draft.dice.one_of(fragments::SYMBOLS);
         if symbol == "\\*" {
             self.shelter()?;
         }
-        self.text(symbol)
+        self.draft.put(symbol)
     }
 
     fn word(&mut self) -> Result<(), AllocError> {
         self.shelter()?;
-        self.text("\\")?;
-        let word = self.dice.one_of(&fragments::WORDS);
-        self.text(word)?;
+        let word = self.draft.dice.one_of(fragments::WORDS);
+        self.draft.put("\\")?;
+        self.draft.put(word)?;
         match word {
-            "bin" => self.text("0")?,
-            "u" => self.pick(&fragments::UNITS)?,
-            _ => self.pick(&fragments::NUMBERS)?,
+            "bin" => self.draft.put("0")?,
+            "u" => self.draft.pick(fragments::UNITS)?,
+            _ => self.draft.pick(fragments::NUMBERS)?,
         }
-        self.pick(&fragments::DELIMITERS)
+        self.draft.pick(fragments::DELIMITERS)
     }
 
     fn bad_word(&mut self) -> Result<(), AllocError> {
-        self.text("\\")?;
-        self.pick(&fragments::WORDS)?;
-        self.pick(&fragments::BAD_NUMBERS)?;
-        self.pick(&fragments::DELIMITERS)
+        self.draft.put("\\")?;
+        self.draft.pick(fragments::WORDS)?;
+        self.draft.pick(fragments::BAD_NUMBERS)?;
+        self.draft.pick(fragments::DELIMITERS)
     }
 
     // A byte that has a character mostly.
     fn good_byte(&mut self) -> u8 {
-        let byte = self.dice.byte();
-        match byte {
+        match self.draft.dice.byte() {
             0x81 | 0x8D | 0x8F | 0x90 | 0x98 | 0x9D => b'!',
-            _ if usize::from(byte) >= self.safe => b'?',
-            _ => byte,
+            byte if self.page.character(byte).is_none() => b'?',
+            byte => byte,
         }
     }
 
@@ -264,198 +244,175 @@ impl Draft<'_> {
     }
 
     fn hex_of(&mut self, byte: u8) -> Result<(), AllocError> {
-        self.text("\\'")?;
+        self.draft.put("\\'")?;
         self.hex_digit(byte / 16)?;
         self.hex_digit(byte % 16)
     }
 
+    // A letter may be small or capital.
     fn hex_digit(&mut self, digit: u8) -> Result<(), AllocError> {
-        let byte = match digit {
-            0..=9 => b'0'.saturating_add(digit),
-            _ if self.dice.once_in(2) => b'A'.saturating_add(digit).saturating_sub(10),
-            _ => b'a'.saturating_add(digit).saturating_sub(10),
-        };
-        self.push(byte)
-    }
-
-    fn raw(&mut self) -> Result<(), AllocError> {
-        match self.good_byte() {
-            b'{' | b'}' | b'\\' => self.push(b'/'),
-            byte => self.push(byte),
+        if digit < 10 || !self.draft.dice.once_in(2) {
+            self.draft.print(format_args!("{digit:x}"))
+        } else {
+            self.draft.print(format_args!("{digit:X}"))
         }
     }
 
+    fn raw(&mut self) -> Result<(), AllocError> {
+        let byte = match self.good_byte() {
+            b'{' | b'}' | b'\\' => b'/',
+            byte => byte,
+        };
+        self.draft.put([byte])
+    }
+
     fn no_character(&mut self) -> Result<(), AllocError> {
-        let byte = match self.dice.below(4) {
+        let byte = match self.draft.dice.below(4) {
             0 => 0x98,
             1 => 0x81,
             2 => 0x9D,
-            _ => self.dice.byte(),
+            _ => self.draft.dice.byte(),
         };
-        if self.dice.once_in(2) {
+        if self.draft.dice.once_in(2) {
             self.hex_of(byte)
         } else {
-            self.push(byte)
+            self.draft.put([byte])
         }
     }
 
     fn unit(&mut self) -> Result<(), AllocError> {
-        self.text("\\u")?;
-        self.pick(&fragments::UNITS)?;
-        if self.dice.once_in(4) {
-            self.text(" ")?;
+        self.draft.put("\\u")?;
+        self.draft.pick(fragments::UNITS)?;
+        if self.draft.dice.once_in(4) {
+            self.draft.put(" ")?;
         }
-        self.pick(&fragments::FALLBACKS)
+        self.draft.pick(fragments::FALLBACKS)
     }
 
-    fn half(&mut self, halves: &[&'static str]) -> Result<(), AllocError> {
-        self.text("\\u")?;
-        self.pick(halves)?;
-        self.text("?")
+    fn half(&mut self, halves: &[&str]) -> Result<(), AllocError>
+        requires { 0 < length halves.now }
+    {
+        self.draft.put("\\u")?;
+        self.draft.pick(halves)?;
+        self.draft.put("?")
     }
 
     fn pair(&mut self) -> Result<(), AllocError> {
-        self.text("\\uc1")?;
-        self.half(&fragments::HIGH_HALVES)?;
-        self.pick(&fragments::BETWEEN)?;
-        self.half(&fragments::LOW_HALVES)
+        self.draft.put("\\uc1")?;
+        self.half(fragments::HIGH_HALVES)?;
+        self.draft.pick(fragments::BETWEEN)?;
+        self.half(fragments::LOW_HALVES)
     }
 
     fn parted(&mut self) -> Result<(), AllocError> {
-        self.half(&fragments::HIGH_HALVES)?;
-        self.pick(&fragments::PARTING)?;
-        self.half(&fragments::LOW_HALVES)
+        self.half(fragments::HIGH_HALVES)?;
+        self.draft.pick(fragments::PARTING)?;
+        self.half(fragments::LOW_HALVES)
     }
 
     fn beyond(&mut self) -> Result<(), AllocError> {
-        if self.dice.once_in(6) {
-            self.half(&fragments::HIGH_HALVES)?;
+        if self.draft.dice.once_in(6) {
+            self.half(fragments::HIGH_HALVES)?;
         }
-        self.text("\\u")?;
-        self.pick(&fragments::BEYOND)?;
-        self.text("?")
+        self.half(fragments::BEYOND)
     }
 
     fn fallback_number(&mut self) -> Result<(), AllocError> {
-        self.text("\\uc")?;
-        let number = self.dice.one_of(&["0", "1", "2", "3", "-1", "", "1", "0"]);
-        self.text(number)?;
-        self.text(" ")
+        self.draft.put("\\uc")?;
+        self.draft.pick(&["0", "1", "2", "3", "-1", "", "1", "0"])?;
+        self.draft.put(" ")
     }
 
     // `\bin` with up to seven bytes of any kind.
-    fn data(&mut self) -> Result<(), AllocError> {
-        let count = self.dice.below(8);
-        self.text("\\bin")?;
-        let digit = self.dice.one_of(&["", "0", "00"]);
-        self.text(digit)?;
-        self.text(self.one_digit(count))?;
-        if self.dice.once_in(2) {
-            self.text(" ")?;
+    fn binary(&mut self) -> Result<(), AllocError> {
+        let count = self.draft.dice.below(8);
+        let zeros = self.draft.dice.one_of(&["", "0", "00"]);
+        self.draft.print(format_args!("\\bin{zeros}{count}"))?;
+        if self.draft.dice.once_in(2) {
+            self.draft.put(" ")?;
         } else if count > 0 {
-            self.text("}")?;
+            self.draft.put("}")?;
         }
-        for _ in 0..count.saturating_sub(1) {
-            let byte = self.dice.byte();
-            self.push(byte)?;
+        for _ in 1..count {
+            let byte = self.draft.dice.byte();
+            self.draft.put([byte])?;
         }
-        self.text("x")
-    }
-
-    fn one_digit(&self, count: usize) -> &'static str {
-        ["0", "1", "2", "3", "4", "5", "6", "7"]
-            .get(count)
-            .copied()
-            .unwrap_or("0")
+        self.draft.put("x")
     }
 
     fn open(&mut self) -> Result<(), AllocError> {
-        if self.depth >= 63 && self.harm == 0 {
+        if self.depth >= 63 && self.harm.is_none() {
             return Ok(());
         }
         self.depth = self.depth.saturating_add(1);
-        self.text("{")
+        self.draft.put("{")
     }
 
     fn close(&mut self) -> Result<(), AllocError> {
         if self.depth <= 1 {
             return Ok(());
         }
-        self.depth = self.depth.saturating_sub(1);
-        self.text("}")
+        self.depth -= 1;
+        self.draft.put("}")
     }
 
     // Groups as deep as there may be, or deeper.
     fn deep(&mut self) -> Result<(), AllocError> {
-        let goal = 60usize.saturating_add(self.dice.below(7));
-        for _ in self.depth..goal {
-            self.open()?;
-        }
-        Ok(())
+        let goal = 60 + self.draft.dice.below(7);
+        let more = goal.saturating_sub(self.depth);
+        self.depth = self.depth.saturating_add(more);
+        self.draft.repeat(b'{', more)
     }
 
     fn silent(&mut self) -> Result<(), AllocError> {
-        self.text("{\\")?;
-        self.pick(&fragments::SILENT)?;
-        self.pick(&fragments::NUMBERS)?;
-        self.pick(&fragments::DELIMITERS)?;
-        self.pick(&fragments::GROUPS)?;
-        self.text("gone}")
+        self.draft.put("{\\")?;
+        self.draft.pick(fragments::SILENT)?;
+        self.draft.pick(fragments::NUMBERS)?;
+        self.draft.pick(fragments::DELIMITERS)?;
+        self.draft.pick(fragments::GROUPS)?;
+        self.draft.put("gone}")
     }
 
     // Closes what is open, mostly. Where a length is given, text and then bytes after the record fill it up.
-    fn end(&mut self, length: Option<usize>) -> Result<(), AllocError> {
-        self.text(" ")?;
-        if let Some(length) = length {
-            let held = self.depth.saturating_add(self.dice.below(3));
-            for _ in self.bytes.len().saturating_add(held)..length {
-                self.push(b'x')?;
-            }
+    fn end(&mut self) -> Result<(), AllocError> {
+        self.draft.put(" ")?;
+        if let Some(length) = self.length {
+            let held = self.depth.saturating_add(self.draft.dice.below(3));
+            self.draft.fill(b'x', length.saturating_sub(held))?;
         }
-        if self.harmful() && self.dice.once_in(2) {
-            return self.pick(&fragments::CUT_ENDS);
+        if self.harmful() && self.draft.dice.once_in(2) {
+            return self.draft.pick(fragments::CUT_ENDS);
         }
-        let missing = if self.harmful() { 1 } else { 0 };
-        for _ in missing..self.depth {
-            self.text("}")?;
-        }
-        match length {
-            Some(length) => {
-                for _ in self.bytes.len()..length {
-                    self.push(0)?;
-                }
-                Ok(())
-            }
-            None if self.dice.once_in(30) => self.pick(&fragments::BAD_TRAILS),
-            None => self.pick(&fragments::TRAILS),
+        let missing = usize::from(self.harmful());
+        self.draft.repeat(b'}', self.depth.saturating_sub(missing))?;
+        match self.length {
+            Some(length) => self.draft.fill(0, length),
+            None if self.draft.dice.once_in(30) => self.draft.pick(fragments::BAD_TRAILS),
+            None => self.draft.pick(fragments::TRAILS),
         }
     }
 
     // One byte is another, or is gone, or one more is there; or the end is gone.
     fn damage(&mut self) -> Result<(), AllocError> {
-        let place = self.dice.below(self.bytes.len());
-        let byte = if self.dice.once_in(2) {
-            self.dice.byte()
+        let length = self.draft.bytes.len();
+        let place = self.draft.dice.below(length);
+        let byte = if self.draft.dice.once_in(2) {
+            self.draft.dice.byte()
         } else {
-            *b"{}\\'-0 9uab".get(self.dice.below(11)).unwrap_or(&0)
+            self.draft.dice.one_of(b"{}\\'-0 9uab")
         };
-        match self.dice.below(4) {
-            0 => self.bytes.truncate(place),
-            1 => {
-                if let Some(at) = self.bytes.get_mut(place) {
-                    *at = byte;
-                }
-            }
+        // The ranges are the odds.
+        let way = self.draft.dice.below(4);
+        if place >= length {
+            return Ok(());
+        }
+        match way {
+            0 => self.draft.bytes.truncate(place),
+            1 => self.draft.bytes[place] = byte,
             2 => {
-                if place < self.bytes.len() {
-                    let _ = self.bytes.remove(place);
-                }
+                let _ = self.draft.bytes.remove(place);
             }
-            _ => {
-                if place < self.bytes.len() {
-                    self.bytes.insert(place, byte)?;
-                }
-            }
+            _ => self.draft.bytes.insert(place, byte)?,
         }
         Ok(())
     }

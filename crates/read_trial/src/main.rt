@@ -1,153 +1,129 @@
 // Tries the reading of records against a second reading, written another way, on records that are made up.
 #![tactic(auto)]
 
-mod answers;
 mod compose;
 mod fragments;
 mod generate;
-mod names;
 mod scan;
 mod second;
-mod tally;
+mod signs;
 
-use answers::Answer;
+use layers::{Fault, Refusal};
 use pages::{Ascii20127, CodePage, Windows1251, Windows1252};
-use reader::{ReadFault, Reading, read};
+use reader::{Reading, read};
 use records::Kind;
-use second::{Page, Script, expect, read_script};
-use std::alloc::{AllocError, Global};
+use second::{Outcome, Script, expect, read_script};
 use std::io;
-use tally::Tally;
-use trials::{Dice, Refusal, Stop};
+use trials::{Dice, Page, Tally, answered};
 
 // How many short records are made for each page.
 const SHORT: usize = 7_500;
 
-// How many records about as long as one may be are made for each page.
-const LONG: usize = 12;
-
 // The most bytes that reading takes.
 const MOST: usize = 32_768;
 
-// What a reading did: its answer, and the buffer after it.
+// A trial of reading in one page.
 #[derive(Drop)]
-struct Done {
-    answer: Answer,
-    buffer: Vec<u8>,
+struct Trial<'a, R, P: CodePage> {
+    rt: &'a R,
+    dice: &'a mut Dice,
+    tally: &'a mut Tally,
+    page: &'a P,
+    spread: Page,
 }
 
-fn answer_of(told: Result<Reading, ReadFault>) -> Answer {
-    match told {
-        Ok(reading) => match reading.kind {
-            Kind::Html => Answer::Html(reading.length),
-            Kind::Text => Answer::Text(reading.length),
-        },
-        Err(fault) => Answer::Refused(Refusal {
-            number: fault.number(),
-            place: fault.place(),
-            layer: fault.layer().name(),
-        }),
+impl<'a, R: Print + AllocGlobal, P: CodePage> Trial<'a, R, P> {
+    fn new(
+        rt: &'a R,
+        dice: &'a mut Dice,
+        tally: &'a mut Tally,
+        page: &'a P,
+    ) -> io::Result<Trial<'a, R, P>> {
+        let spread = Page::spread(rt.alloc(), page)?;
+        Ok(Trial {
+            rt,
+            dice,
+            tally,
+            page,
+            spread,
+        })
     }
-}
 
-// Reads into a buffer of some room that was not empty before.
-fn read_into<P: CodePage>(
-    heap: Global,
-    bytes: &[u8],
-    page: &P,
-    room: usize,
-) -> Result<Done, AllocError> {
-    let mut buffer = vec![in heap; 0xAAu8; room]?;
-    let answer = answer_of(read(bytes, page, &mut buffer));
-    Ok(Done { answer, buffer })
-}
+    // Tries short records, and records about as long as one may be.
+    fn run(&mut self) -> io::Result<()> {
+        for _ in 0..SHORT {
+            self.try_record(None)?;
+        }
+        for length in MOST - 7..MOST + 5 {
+            self.try_record(Some(length))?;
+        }
+        Ok(())
+    }
 
-// Reads in both ways, notes whether the two differ, and gives the answer.
-fn compare<P: CodePage>(
-    rt: &HostRuntime,
-    bytes: &[u8],
-    page: &P,
-    script: &Result<Script, Stop>,
-    room: usize,
-    tally: &mut Tally,
-) -> io::Result<Answer> {
-    let expected = expect(rt.alloc(), script, room)?;
-    let done = read_into(rt.alloc(), bytes, page, room)?;
-    if done.answer == expected.answer && done.buffer == expected.buffer {
-        return Ok(done.answer);
+    // Tries one record: with ample room first, and then with another, whose answer counts.
+    fn try_record(&mut self, length: Option<usize>) -> io::Result<()> {
+        let heap = self.rt.alloc();
+        let bytes = generate::record(heap, self.dice, &self.spread, length)?;
+        let script = answered(read_script(heap, &bytes, &self.spread))?;
+        let content = match &script {
+            Ok(script) => script.content.len(),
+            Err(_) => self.dice.below(bytes.len()),
+        };
+        let _ = self.compare(&bytes, &script, content.saturating_add(64))?;
+        let room = self.room_for(content);
+        let answer = self.compare(&bytes, &script, room)?;
+        self.tally.count(answer.map(|reading| match reading.kind {
+            Kind::Html => "accepted as html",
+            Kind::Text => "accepted as text",
+        }))?;
+        Ok(())
     }
-    tally.differ = tally.differ.saturating_add(1);
-    if tally.differ <= 5 {
-        tally::print_record(rt, bytes)?;
-        let number = page.number();
-        println!(rt; "in page {number} into {room} bytes")?;
-        tally::print_answer(rt, "read", done.answer)?;
-        tally::print_answer(rt, "expected", expected.answer)?;
-        let same = done.buffer == expected.buffer;
-        println!(rt; "the same buffer: {same}")?;
-    }
-    Ok(done.answer)
-}
 
-// Room for a content of some length: for it just so, for less, or for more.
-fn room_for(dice: &mut Dice, content: usize) -> usize {
-    match dice.below(12) {
-        0..=4 => content,
-        5 => content.saturating_sub(1),
-        6 => dice.below(content),
-        7 => 0,
-        8 => content.saturating_add(1),
-        _ => content.saturating_add(dice.below(400)),
+    // Room for a content of some length: for it just so, for less, or for more.
+    fn room_for(&mut self, content: usize) -> usize {
+        match self.dice.below(12) {
+            0..=4 => content,
+            5 => content.saturating_sub(1),
+            6 => self.dice.below(content),
+            7 => 0,
+            8 => content.saturating_add(1),
+            _ => content.saturating_add(self.dice.below(400)),
+        }
     }
-}
 
-// Tries one record: with ample room first, and then with another, whose answer counts.
-fn try_record<P: CodePage>(
-    rt: &HostRuntime,
-    dice: &mut Dice,
-    bytes: &[u8],
-    page: &P,
-    spread: &Page,
-    tally: &mut Tally,
-) -> io::Result<()> {
-    let script = read_script(rt.alloc(), bytes, spread);
-    let content = match &script {
-        Ok(script) => script.content.len(),
-        Err(_) => dice.below(bytes.len()),
-    };
-    let ample = content.saturating_add(64);
-    compare(rt, bytes, page, &script, ample, tally)?;
-    let room = room_for(dice, content);
-    let answer = compare(rt, bytes, page, &script, room, tally)?;
-    tally.count(answer);
-    Ok(())
-}
-
-// Tries short and long records in a page.
-fn try_page<P: CodePage>(
-    rt: &HostRuntime,
-    dice: &mut Dice,
-    page: &P,
-    tally: &mut Tally,
-) -> io::Result<()> {
-    let spread = Page::spread(rt.alloc(), page)?;
-    for _ in 0..SHORT {
-        let bytes = generate::record(rt.alloc(), dice, spread.number, None)?;
-        try_record(rt, dice, &bytes, page, &spread, tally)?;
+    // Reads in both ways into a buffer that was not empty before, notes whether the two differ, and gives the answer.
+    fn compare(
+        &mut self,
+        bytes: &[u8],
+        script: &Result<Script, Refusal>,
+        room: usize,
+    ) -> io::Result<Result<Reading, Refusal>> {
+        let heap = self.rt.alloc();
+        let expected = expect(heap, script, room)?;
+        let mut buffer = vec![in heap; 0xAAu8; room]?;
+        let answer = read(bytes, self.page, &mut buffer).map_err(|fault| fault.refusal());
+        let done = Outcome { answer, buffer };
+        if done != expected && self.tally.note_difference() {
+            let record = hex::encode(heap, bytes)?;
+            let number = self.page.number();
+            let same = done.buffer == expected.buffer;
+            println!(self.rt; "record {record}")?;
+            println!(self.rt; "in page {number} into {room} bytes")?;
+            println!(self.rt; "read: {done}")?;
+            println!(self.rt; "expected: {expected}")?;
+            println!(self.rt; "the same buffer: {same}")?;
+        }
+        Ok(answer)
     }
-    for turn in 0..LONG {
-        let length = MOST.saturating_sub(7).saturating_add(turn);
-        let bytes = generate::record(rt.alloc(), dice, spread.number, Some(length))?;
-        try_record(rt, dice, &bytes, page, &spread, tally)?;
-    }
-    Ok(())
 }
 
 fn main(rt: HostRuntime) -> io::Result<()> {
     let mut dice = Dice::new(20_240_607);
-    let mut tally = Tally::new();
-    try_page(&rt, &mut dice, &Windows1252, &mut tally)?;
-    try_page(&rt, &mut dice, &Windows1251, &mut tally)?;
-    try_page(&rt, &mut dice, &Ascii20127, &mut tally)?;
-    tally.print(&rt)
+    let mut tally = Tally::new(rt.alloc());
+    Trial::new(&rt, &mut dice, &mut tally, &Windows1252)?.run()?;
+    Trial::new(&rt, &mut dice, &mut tally, &Windows1251)?.run()?;
+    Trial::new(&rt, &mut dice, &mut tally, &Ascii20127)?.run()?;
+    let records = tally.answers();
+    let differ = tally.differ;
+    println!(rt; "{records} records\n{tally}{differ} differ")
 }

@@ -1,134 +1,124 @@
 // A second reading of records, for comparison: by the tokens in a `Vec`, and a content that grows.
-use crate::answers::Answer;
 use crate::compose::compose;
-use crate::names::Name;
-use crate::scan::{Placed, Token, scan};
-use pages::CodePage;
+use crate::scan::scan;
+use layers::Refusal;
+use reader::Reading;
+use records::Kind;
 use std::alloc::{AllocError, Global};
-use trials::{Refusal, Stop};
+use std::fmt;
+use trials::{Page, Placed, Reason, Stop, Token};
 
-// A code page spread out: its number, and the character of each byte.
-#[derive(Drop)]
-pub struct Page {
-    pub number: u16,
-    pub characters: Vec<Option<char>>,
-}
-
-impl Page {
-    pub fn spread<P: CodePage>(heap: Global, page: &P) -> Result<Page, AllocError> {
-        let mut characters = Vec::new(heap);
-        for byte in 0..=u8::MAX {
-            characters.push(page.decode(byte))?;
-        }
-        Ok(Page {
-            number: page.number(),
-            characters,
-        })
-    }
-
-    pub fn character(&self, byte: u8) -> Option<char> {
-        self.characters.get(usize::from(byte)).copied().flatten()
-    }
-}
-
-// What a reading should answer, and leave in a buffer.
-#[derive(Drop)]
-pub struct Expected {
-    pub answer: Answer,
-    pub buffer: Vec<u8>,
-}
+// How many tokens at the front may have a mark or a page.
+const FRONT: usize = 10;
 
 // The kind and the content of a sound record.
 #[derive(Drop)]
 pub struct Script {
-    pub html: bool,
-    pub content: Vec<u8>,
+    pub kind: Kind,
+    pub content: String,
+}
+
+// What a reading comes to: its answer, and the buffer after it.
+#[derive(PartialEq, Eq, Drop)]
+pub struct Outcome {
+    pub answer: Result<Reading, Refusal>,
+    pub buffer: Vec<u8>,
+}
+
+// Prints the answer.
+impl fmt::Display for Outcome {
+    fn fmt<W: fmt::Write>(&self, f: &mut fmt::Formatter<W>) -> fmt::Result {
+        match self.answer {
+            Ok(reading) => {
+                let kind = reading.kind;
+                let length = reading.length;
+                write!(f, "{kind}, {length} bytes")
+            }
+            Err(refusal) => write!(f, "{refusal}"),
+        }
+    }
 }
 
 // Reads with room for any content.
 pub fn read_script(heap: Global, bytes: &[u8], page: &Page) -> Result<Script, Stop> {
-    if bytes.len() > 32_768 {
-        return Err(Stop::Refused(Refusal::of_record(12, 0)));
-    }
-    if !is_rtf(bytes) {
-        return Err(Stop::Refused(Refusal::of_record(1, 0)));
-    }
+    check_start(bytes)?;
     let scanned = scan(heap, bytes)?;
     check_rest(bytes, scanned.end)?;
-    let html = is_html(&scanned.tokens)?;
+    let kind = kind_of(&scanned.tokens)?;
     check_page(&scanned.tokens, page.number)?;
-    let content = compose(heap, &scanned.tokens, html, page)?;
-    Ok(Script { html, content })
+    let content = compose(heap, &scanned.tokens, kind, page)?;
+    Ok(Script { kind, content })
 }
 
 // What reading into a buffer of some room should come to.
 pub fn expect(
     heap: Global,
-    script: &Result<Script, Stop>,
+    script: &Result<Script, Refusal>,
     room: usize,
-) -> Result<Expected, AllocError> {
+) -> Result<Outcome, AllocError> {
     let mut buffer = Vec::new(heap);
     let answer = match script {
-        Ok(script) if script.content.len() > room => Answer::Refused(Refusal::of_record(26, 0)),
+        Ok(script) if script.content.len() > room => Err(Reason::ShortBuffer.at(0)),
         Ok(script) => {
-            buffer.extend_from_slice(&script.content)?;
-            if script.html {
-                Answer::Html(script.content.len())
-            } else {
-                Answer::Text(script.content.len())
-            }
+            buffer.extend_from_slice(script.content.as_bytes())?;
+            Ok(Reading {
+                kind: script.kind,
+                length: buffer.len(),
+            })
         }
-        Err(Stop::Refused(refusal)) => Answer::Refused(*refusal),
-        Err(Stop::Memory) => return Err(AllocError),
+        Err(refusal) => Err(*refusal),
     };
-    for _ in buffer.len()..room {
-        buffer.push(0)?;
-    }
-    Ok(Expected { answer, buffer })
+    buffer.resize(room, 0)?;
+    Ok(Outcome { answer, buffer })
 }
 
-fn is_rtf(bytes: &[u8]) -> bool {
-    match bytes {
-        [b'{', b'\\', b'r', b't', b'f', b'1', b'0'..=b'9', ..] => false,
-        [b'{', b'\\', b'r', b't', b'f', b'1', ..] => true,
-        _ => false,
+// A record is not too long, and begins as one.
+fn check_start(bytes: &[u8]) -> Result<(), Refusal> {
+    if bytes.len() > 32_768 {
+        return Err(Reason::TooLongToRead.at(0));
+    }
+    match bytes.strip_prefix(b"{\\rtf1") {
+        Some([b'0'..=b'9', ..]) | None => Err(Reason::NotRtf.at(0)),
+        Some(_) => Ok(()),
     }
 }
 
 // After the record only CR, LF and NUL may stand.
 fn check_rest(bytes: &[u8], end: usize) -> Result<(), Refusal> {
-    for (place, byte) in bytes.iter().enumerate().skip(end) {
-        if !matches!(*byte, b'\r' | b'\n' | 0) {
-            return Err(Refusal::of_record(5, place));
-        }
+    let mut rest = bytes.iter().enumerate().skip(end);
+    match rest.find(|(_, byte)| !matches!(**byte, b'\r' | b'\n' | 0)) {
+        Some((place, _)) => Err(Reason::Trailing.at(place)),
+        None => Ok(()),
     }
-    Ok(())
 }
 
-// Whether the record's mark is that of HTML: the first of the two marks among the first ten tokens.
-fn is_html(tokens: &[Placed]) -> Result<bool, Refusal> {
+// The kind by the first of the two marks among the tokens at the front.
+fn kind_of(tokens: &[Placed<'_>]) -> Result<Kind, Refusal> {
     let mut last = 0;
-    for placed in tokens.iter().take(10) {
+    for placed in tokens.iter().take(FRONT) {
         last = placed.place;
         match placed.token {
-            Token::Word(Name::FromHtml, Some(1)) => return Ok(true),
-            Token::Word(Name::FromText, None) => return Ok(false),
+            Token::Word("fromhtml", Some(1)) => return Ok(Kind::Html),
+            Token::Word("fromtext", None) => return Ok(Kind::Text),
             Token::Word(_, _) | Token::Open => {}
             _ => break,
         }
     }
-    Err(Refusal::of_record(6, last))
+    Err(Reason::NoMark.at(last))
 }
 
-// The first declaration of a page among the first ten tokens has the given number.
-fn check_page(tokens: &[Placed], page: u16) -> Result<(), Refusal> {
-    for placed in tokens.iter().take(10) {
-        if let Token::Word(Name::AnsiPage, number) = placed.token {
-            if number == Some(i64::from(page)) {
-                return Ok(());
-            }
-            return Err(Refusal::of_record(7, placed.place));
-        }
+// The first declaration of a page among the tokens at the front has the given number.
+fn check_page(tokens: &[Placed<'_>], page: u16) -> Result<(), Refusal> {
+    let declared = tokens
+        .iter()
+        .take(FRONT)
+        .find_map(|placed| match placed.token {
+            Token::Word("ansicpg", number) => Some((number, placed.place)),
+            _ => None,
+        });
+    match declared {
+        Some((Some(number), _)) if number == i32::from(page) => Ok(()),
+        Some((_, place)) => Err(Reason::WrongPage.at(place)),
+        None => Err(Reason::WrongPage.at(0)),
     }
-    Err(Refusal::of_record(7, 0))
 }

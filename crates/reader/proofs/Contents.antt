@@ -1,14 +1,13 @@
 -- The content, one effect at a time.
-use Rattle.std.proofs.Common.{◌≡◌, ℕ, ◌+◌, ◌<◌, ◌≤◌, false, List, [], ◌∷◌, ◌++◌, length, is_some, Some, None, Ok, Err, Option, Result, sym, refl, ap, ◌∙◌, append_assoc, append-nil, arith, length-append}
+use Rattle.std.proofs.Common.{◌≡◌, ℕ, ◌+◌, ◌<◌, ◌≤◌, List, [], ◌∷◌, ◌++◌, length, Some, None, Ok, Err, Option, Result, sym, refl, ap, ◌∙◌, append_assoc, append-nil, arith, length-append}
 use Rattle.std.specs.List.{AllByRecursion}
-use Rattle.std.proofs.lemmas.Bool.{true≢false}
 use Rattle.reader.specs.declared.faults.ReadFault.{ReadFault}
 use Rattle.reader.specs.declared.faults.ReadFault.TheVariants.{LoneHalf}
 use Rattle.reader.specs.declared.assemble.Half.{Half}
 use Rattle.reader.specs.declared.assemble.Joined.{Joined}
 use Rattle.reader.specs.Rules.{Effect}
 use Rattle.reader.specs.Content.{make, read, before, onward, characters}
-use Rattle.reader.specs.Pieces.{characters_of, shown_joined}
+use Rattle.reader.specs.Pieces.{shown, shown_joined}
 use Rattle.reader.specs.Walk.{as_bytes}
 
 before_more : (cs ds : List ℕ) (r : Result (List ℕ) ReadFault) → before cs (before ds r) ≡ before (cs ++ ds) r
@@ -21,8 +20,8 @@ module _ (decoded : ℕ → Option ℕ) where
   characters_step (Some h) x xs = refl
 
   module _ (done : List ℕ) (w : Option Half) (x : Effect × ℕ) (xs all : List (Effect × ℕ)) (e : all ≡ x ∷ xs) where
-    pub made_more : (j : Joined) → shown_joined (Ok j) ≡ make decoded w x.0 x.1 → before done (characters decoded w all) ≡ before (done ++ characters_of j.piece) (characters decoded j.waiting xs)
-    made_more j m = ap (λ l. before done (characters decoded w l)) e ∙ ap (before done) (characters_step w x xs) ∙ ap (λ r. before done (onward r (λ w. characters decoded w xs))) (sym m) ∙ before_more done (characters_of j.piece) (characters decoded j.waiting xs)
+    pub made_more : (j : Joined) → shown_joined (Ok j) ≡ make decoded w x.0 x.1 → before done (characters decoded w all) ≡ before (done ++ (shown j).characters) (characters decoded (shown j).waiting xs)
+    made_more j m = ap (λ l. before done (characters decoded w l)) e ∙ ap (before done) (characters_step w x xs) ∙ ap (λ r. before done (onward r (λ w. characters decoded w xs))) (sym m) ∙ before_more done (shown j).characters (characters decoded (shown j).waiting xs)
 
     pub made_none : (f : ReadFault) → Err f ≡ make decoded w x.0 x.1 → before done (characters decoded w all) ≡ Err f
     made_none f m = ap (λ l. before done (characters decoded w l)) e ∙ ap (before done) (characters_step w x xs) ∙ ap (λ r. before done (onward r (λ w. characters decoded w xs))) (sym m)
@@ -33,11 +32,6 @@ module _ (decoded : ℕ → Option ℕ) where
 
     pub ended_half : (h : Half) → w ≡ Some h → before done (characters decoded w all) ≡ Err (LoneHalf h.place)
     ended_half h n = ap (λ l. before done (characters decoded w l)) e ∙ ap (λ w. before done (characters decoded w [])) n
-
--- what is known where no half waits
-pub none_waits : (w : Option Half) → is_some w ≡ false → w ≡ None
-none_waits None e = refl
-none_waits (Some h) e = absurd (true≢false e)
 
 before_none : (r : Result (List ℕ) ReadFault) → r ≡ before [] r
 before_none (Ok cs) = refl

@@ -101,12 +101,12 @@ content_fair k s (Mark n) v = spelled_scalars k n
 content_fair k s Fallback v = fallback_fair s v
 content_fair k s Unicode v = unicode_fair s v
 
-word_fair : (k : Kind) (s : ReadingState) (x : Word) (v : Option ℤ) → FairOption (word_turn k s x v).effect
-word_fair k s w.Htmlrtf v = tt
-word_fair k s w.Htmltag v = tt
-word_fair k s w.Silent v = tt
-word_fair k s (w.Content c) v = content_fair k s c v
-word_fair k s w.Other v = tt
+word_fair : (k : Kind) (s : ReadingState) (x : Option Word) (v : Option ℤ) → FairOption (word_turn k s x v).effect
+word_fair k s (Some w.Htmlrtf) v = tt
+word_fair k s (Some w.Htmltag) v = tt
+word_fair k s (Some w.Silent) v = tt
+word_fair k s (Some (w.Content c)) v = content_fair k s c v
+word_fair k s None v = tt
 
 brace_scalar : (b : ℕ) → (eqb b 123 || (eqb b 125 || eqb b 92)) ≡ true → scalar b ≡ true
 brace_scalar b e =
@@ -360,12 +360,12 @@ content_moved k s (Mark n) v = refl
 content_moved k s Fallback v = fallback_moved s v
 content_moved k s Unicode v = unicode_moved s v
 
-word_moved : (k : Kind) (s : ReadingState) (x : Word) (v : Option ℤ) → word_turn k (inside 0 s) x v ≡ moved (word_turn k s x v)
-word_moved k s w.Htmlrtf v = refl
-word_moved k s w.Htmltag v = refl
-word_moved k s w.Silent v = refl
-word_moved k s (w.Content c) v = content_moved k s c v
-word_moved k s w.Other v = refl
+word_moved : (k : Kind) (s : ReadingState) (x : Option Word) (v : Option ℤ) → word_turn k (inside 0 s) x v ≡ moved (word_turn k s x v)
+word_moved k s (Some w.Htmlrtf) v = refl
+word_moved k s (Some w.Htmltag) v = refl
+word_moved k s (Some w.Silent) v = refl
+word_moved k s (Some (w.Content c)) v = content_moved k s c v
+word_moved k s None v = refl
 
 text_moved : (s : ReadingState) (o : Option (List ℕ)) → text_turn (inside 0 s) o ≡ moved (text_turn s o)
 text_moved s None = refl

@@ -1,4 +1,3 @@
-pub mod Meanings
 pub mod Walks
 pub mod Marks
 pub mod Checks
@@ -7,3 +6,4 @@ pub mod Contents
 pub mod Whole
 pub mod Laws
 pub mod Says
+pub mod Names

@@ -86,7 +86,7 @@ module _ (k : Kind) where
       ∙ cond-false (not s.tag && is_star t) (still (cond (is_html k && next) (make_tag s) (silence s))) _ (and_right (not s.tag) _ v)
       ∙ cond-false (not s.tag && is_silent (means t)) (still (silence s)) _ (and_right (not s.tag) _ x)
 
-  word_turn_lem : (s : ReadingState) → Plain s → (name : List ℕ) (v : Option ℤ) (next : Bool) (c : Word) → word_of name ≡ c → is_htmlrtf c ≡ false → is_silent c ≡ false → turn_of k s (word name v) next ≡ word_turn k s c v
+  word_turn_lem : (s : ReadingState) → Plain s → (name : List ℕ) (v : Option ℤ) (next : Bool) (c : Option Word) → word_of name ≡ c → is_htmlrtf c ≡ false → is_silent c ≡ false → turn_of k s (word name v) next ≡ word_turn k s c v
   word_turn_lem s h name v next c e u x = plain_turn_lem s h (word name v) next (ap is_htmlrtf e ∙ u) refl (ap is_silent e ∙ x) ∙ ap (λ c. word_turn k s c v) e
 
 module _ (decoded : ℕ → Option ℕ) (k : Kind) where
@@ -150,8 +150,8 @@ module _ (decoded : ℕ → Option ℕ) (k : Kind) (ss : List ReadingState) wher
       says_par v = says_effect (word (codes "par") v) tt (given (13 ∷ 10 ∷ [])) (13 ∷ 10 ∷ []) (λ next. plain_turn_lem k s h (word (codes "par") v) next refl refl refl) (λ p. refl)
 
       -- A word that means nothing says nothing.
-      pub says_other : (name : List ℕ) (v : Option ℤ) → word_of name ≡ w.Other → Says decoded k s ss ((word name v, n) ∷ []) []
-      says_other name v e = leads_still s s (word name v) n tt (λ next. word_turn_lem k s h name v next w.Other e refl refl)
+      pub says_other : (name : List ℕ) (v : Option ℤ) → word_of name ≡ None → Says decoded k s ss ((word name v, n) ∷ []) []
+      says_other name v e = leads_still s s (word name v) n tt (λ next. word_turn_lem k s h name v next None e refl refl)
 
       -- \uc1, where one token stands in for each unit already, says nothing.
       pub says_single : Says decoded k s ss ((word (codes "uc") (Some (pos 1)), n) ∷ []) []
@@ -240,7 +240,7 @@ says_suppressed decoded ss s room ts level enough quiet plain =
 
 module _ (decoded : ℕ → Option ℕ) (k : Kind) (ss : List ReadingState) (s : ReadingState) (h : Plain s) (outside : s.tag ≡ false) where
   -- a word of a silent destination silences its group
-  leads_silent : (name : List ℕ) (v : Option ℤ) (n : ℕ) → word_of name ≡ w.Silent → Leads decoded k s (silence s) ss ((word name v, n) ∷ []) []
+  leads_silent : (name : List ℕ) (v : Option ℤ) (n : ℕ) → word_of name ≡ Some w.Silent → Leads decoded k s (silence s) ss ((word name v, n) ∷ []) []
   leads_silent name v n e =
       leads_still decoded k ss s (silence s) (word name v) n tt
       (λ next. beyond_turn k s h (word name v) next (ap is_htmlrtf e)
@@ -248,7 +248,7 @@ module _ (decoded : ℕ → Option ℕ) (k : Kind) (ss : List ReadingState) (s :
       ∙ cond-true (not s.tag && is_silent (word_of name)) _ _ (and_from _ _ (not_from_false _ outside) (ap is_silent e)))
 
 -- A group that begins with a word of a silent destination says nothing.
-pub says_silent_group : (decoded : ℕ → Option ℕ) (k : Kind) (ss : List ReadingState) (s : ReadingState) → Plain s → s.tag ≡ false → (name : List ℕ) → word_of name ≡ w.Silent → (v : Option ℤ) (l m n room : ℕ) (ts : List (Tok × ℕ)) → Level room 0 ts → 1 + length (s ∷ ss) + room ≤ 64 →
+pub says_silent_group : (decoded : ℕ → Option ℕ) (k : Kind) (ss : List ReadingState) (s : ReadingState) → Plain s → s.tag ≡ false → (name : List ℕ) → word_of name ≡ Some w.Silent → (v : Option ℤ) (l m n room : ℕ) (ts : List (Tok × ℕ)) → Level room 0 ts → 1 + length (s ∷ ss) + room ≤ 64 →
     Says decoded k s ss ((opens, l) ∷ (word name v, m) ∷ (ts ++ (closes, n) ∷ [])) []
 says_silent_group decoded k ss s h outside name e v l m n room ts level enough =
     says_group decoded k ss s (λ p. silence (inside p s)) l n ((word name v, m) ∷ ts) [] (omega arith)

@@ -61,7 +61,7 @@ turn_star k s t n =
 
 -- where no token comes nothing else does
 module _ (bytes : List ℕ) (at : ℕ) where
-  pub ended_items : (o : Option Item) → o ≡ next at (drop at bytes) → Ended o → (items 0 at (drop at bytes) ≡ []) ⊎ ((f : TokenFault) × (items 0 at (drop at bytes) ≡ bad f ∷ []))
+  ended_items : (o : Option Item) → o ≡ next at (drop at bytes) → Ended o → (items 0 at (drop at bytes) ≡ []) ⊎ ((f : TokenFault) × (items 0 at (drop at bytes) ≡ bad f ∷ []))
   ended_items None h e = inl (items_none bytes at h)
   ended_items (Some (bad f)) h e = inr (f, items_bad bytes at f h)
   ended_items (Some (good t p q)) h e = absurd e

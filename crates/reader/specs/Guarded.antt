@@ -1,5 +1,5 @@
 -- What a guard over result bytes holds, and what it leaves.
-use Rattle.std.specs.Prelude.{◌≡◌, ℕ, ◌-◌, Bool, false, cond, List, ◌++◌, length, replicate, Ok, Err, Result, nat_lt}
+use Rattle.std.specs.Prelude.{◌≡◌, ℕ, ◌-◌, ◌<◌, ◌≤◌, Bool, cond, List, ◌++◌, length, replicate, Some, None, Ok, Err, Option, Result}
 use Rattle.std.proofs.Math.Utf8.{encodes}
 use Rattle.reader.specs.declared.faults.ReadFault.{ReadFault}
 use Rattle.records.specs.declared.kinds.Kind.{Kind}
@@ -13,11 +13,20 @@ zeros n = replicate n 0
 abbrev pub left_by : Bool → List ℕ → List ℕ
 left_by accepted bytes = cond accepted bytes (zeros (length bytes))
 
--- The guard was given this content: it stands at the bytes' start with zeros after it, or is too long for them.
-pub record Holds (content : List ℕ) (g : Guard) : Type 0 where
-  pub short : g.short ≡ nat_lt (length g.bytes.now) (length content)
-  pub len : g.short ≡ false → g.len ≡ length content
-  pub bytes : g.short ≡ false → g.bytes.now ≡ content ++ zeros (length g.bytes.now - length content)
+-- A content of a length, or one too long, in given bytes: it stands at their start with zeros after it, or is longer than they are.
+abbrev pub HoldsBy : List ℕ → Option ℕ → List ℕ → Type 0
+HoldsBy content None bytes = length bytes < length content
+HoldsBy content (Some n) bytes = (n ≡ length content) × (length content ≤ length bytes) × (bytes ≡ content ++ zeros (length bytes - length content))
+
+-- The guard was given this content.
+abbrev pub Holds : List ℕ → Guard → Type 0
+Holds content g = HoldsBy content g.length g.bytes.now
+
+-- The guard keeps its bytes' loan and their count, and is accepted or not as before.
+pub record Keeps (before after : Guard) : Type 0 where
+  pub same : after.bytes.ghost_name ≡ before.bytes.ghost_name
+  pub len : length after.bytes.now ≡ length before.bytes.now
+  pub accepted : after.accepted ≡ before.accepted
 
 -- A filling told this of the characters that were to come, and the guard holds them.
 abbrev pub Filled : Result (List ℕ) ReadFault → Result (Unit {0}) ReadFault → Guard → Type 0

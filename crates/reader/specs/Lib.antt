@@ -4,7 +4,6 @@ pub mod Rules
 pub mod Content
 pub mod Recognition
 pub mod Reading
-pub mod Entries
 pub mod Shown
 pub mod Walk
 pub mod Tokens

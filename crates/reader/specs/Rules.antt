@@ -62,12 +62,12 @@ content_turn k s (Mark n) v = adds s (given (spelled k n))
 content_turn k s Fallback v = fallback_turn s v
 content_turn k s Unicode v = unicode_turn s v
 
-abbrev pub word_turn : Kind → ReadingState → Word → Option ℤ → Turn
-word_turn k s w.Htmlrtf v = still s
-word_turn k s w.Htmltag v = still s
-word_turn k s w.Silent v = still s
-word_turn k s (w.Content c) v = content_turn k s c v
-word_turn k s w.Other v = still s
+abbrev pub word_turn : Kind → ReadingState → Option Word → Option ℤ → Turn
+word_turn k s None v = still s
+word_turn k s (Some w.Htmlrtf) v = still s
+word_turn k s (Some w.Htmltag) v = still s
+word_turn k s (Some w.Silent) v = still s
+word_turn k s (Some (w.Content c)) v = content_turn k s c v
 
 -- The characters of a control symbol: a backslash before CR or LF breaks the line, before a brace or a backslash gives that byte.
 abbrev pub symbol_text : Kind → ℕ → Option (List ℕ)
@@ -93,14 +93,14 @@ plain_turn k s (hex b) = adds s (byte b)
 plain_turn k s (symbol b) = symbol_turn k s b
 plain_turn k s (text b) = adds s (byte b)
 
--- What a token means as a word.
-abbrev pub means : Tok → Word
-means opens = w.Other
-means closes = w.Other
+-- What a token means as a word, if it means anything.
+abbrev pub means : Tok → Option Word
+means opens = None
+means closes = None
 means (word name v) = word_of name
-means (hex b) = w.Other
-means (symbol b) = w.Other
-means (text b) = w.Other
+means (hex b) = None
+means (symbol b) = None
+means (text b) = None
 
 abbrev pub is_star : Tok → Bool
 is_star opens = false

@@ -1,5 +1,5 @@
 -- The words and symbols that reading knows by name.
-use Rattle.std.specs.Prelude.{ℕ, Bool, true, false, cond, List, [], ◌∷◌, ◌++◌, length, codes, ◌==◌}
+use Rattle.std.specs.Prelude.{ℕ, Bool, true, false, cond, List, [], ◌∷◌, ◌++◌, Some, None, codes, Option}
 use Rattle.std.specs.Str.{bytes_eq}
 use Rattle.records.specs.declared.kinds.Kind.{Kind}
 use Rattle.records.specs.declared.kinds.Kind.TheVariants.{Html, Text}
@@ -24,17 +24,12 @@ words =
     (codes "footer", word.Silent) ∷ (codes "footerl", word.Silent) ∷ (codes "footerr", word.Silent) ∷ (codes "footerf", word.Silent) ∷
     (codes "footnote", word.Silent) ∷ (codes "pntext", word.Silent) ∷ []
 
--- The meaning of a name in a list of meanings.
-abbrev pub meaning : List ℕ → List (List ℕ × Word) → Word
-meaning name [] = word.Other
-meaning name (w ∷ ws) = cond (bytes_eq name w.0) w.1 (meaning name ws)
+-- The meaning of a name in a list of meanings, if it has one.
+abbrev pub meaning : List ℕ → List (List ℕ × Word) → Option Word
+meaning name [] = None
+meaning name (w ∷ ws) = cond (bytes_eq name w.0) (Some w.1) (meaning name ws)
 
--- The entries whose names are n bytes long.
-abbrev pub of_length : ℕ → List (List ℕ × Word) → List (List ℕ × Word)
-of_length n [] = []
-of_length n (w ∷ ws) = cond (length w.0 == n) (w ∷ of_length n ws) (of_length n ws)
-
-abbrev pub word_of : List ℕ → Word
+abbrev pub word_of : List ℕ → Option Word
 word_of name = meaning name words
 
 -- The character that HTML 4 names so.
@@ -66,23 +61,23 @@ abbrev pub spelled : Kind → Named → List ℕ
 spelled Text n = character n ∷ []
 spelled Html n = codes "&" ++ (entity n ++ codes ";")
 
-abbrev pub is_htmlrtf : Word → Bool
-is_htmlrtf word.Htmlrtf = true
-is_htmlrtf word.Htmltag = false
-is_htmlrtf word.Silent = false
-is_htmlrtf (word.Content c) = false
-is_htmlrtf word.Other = false
+abbrev pub is_htmlrtf : Option Word → Bool
+is_htmlrtf None = false
+is_htmlrtf (Some word.Htmlrtf) = true
+is_htmlrtf (Some word.Htmltag) = false
+is_htmlrtf (Some word.Silent) = false
+is_htmlrtf (Some (word.Content c)) = false
 
-abbrev pub is_htmltag : Word → Bool
-is_htmltag word.Htmlrtf = false
-is_htmltag word.Htmltag = true
-is_htmltag word.Silent = false
-is_htmltag (word.Content c) = false
-is_htmltag word.Other = false
+abbrev pub is_htmltag : Option Word → Bool
+is_htmltag None = false
+is_htmltag (Some word.Htmlrtf) = false
+is_htmltag (Some word.Htmltag) = true
+is_htmltag (Some word.Silent) = false
+is_htmltag (Some (word.Content c)) = false
 
-abbrev pub is_silent : Word → Bool
-is_silent word.Htmlrtf = false
-is_silent word.Htmltag = false
-is_silent word.Silent = true
-is_silent (word.Content c) = false
-is_silent word.Other = false
+abbrev pub is_silent : Option Word → Bool
+is_silent None = false
+is_silent (Some word.Htmlrtf) = false
+is_silent (Some word.Htmltag) = false
+is_silent (Some word.Silent) = true
+is_silent (Some (word.Content c)) = false

@@ -18,16 +18,15 @@ pub struct Half {
 // What an effect adds to the content.
 #[derive(Clone, Copy)]
 pub enum Piece {
-    Nothing,
     Character(char),
     Text(&'static str),
 }
 
-// What one effect makes: a piece, and a half that waits for its second.
+// What one effect makes: a piece, or a half that waits for its second.
 #[derive(Clone, Copy)]
-pub struct Joined {
-    pub piece: Piece,
-    pub waiting: Option<Half>,
+pub enum Joined {
+    Made(Piece),
+    Waits(Half),
 }
 
 fn is_high(unit: u16) -> bool
@@ -53,10 +52,7 @@ fn pair(high: u16, low: u16) -> char
 fn made(piece: Piece) -> Result<Joined, ReadFault>
     ensures { shown_joined result ≡ making (characters_of piece) }
 {
-    Ok(Joined {
-        piece,
-        waiting: None,
-    })
+    Ok(Joined::Made(piece))
 }
 
 // A unit where no half waits.
@@ -64,10 +60,7 @@ fn alone(unit: u16, place: usize) -> Result<Joined, ReadFault>
     ensures { shown_joined result ≡ alone_of unit place }
 {
     if is_high(unit) {
-        return Ok(Joined {
-            piece: Piece::Nothing,
-            waiting: Some(Half { unit, place }),
-        });
+        return Ok(Joined::Waits(Half { unit, place }));
     }
     if is_low(unit) {
         return Err(ReadFault::LoneHalf(place));

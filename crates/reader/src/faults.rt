@@ -3,7 +3,7 @@ ghost use Rattle.std.specs.Prelude.{◌≡◌};
 ghost use Rattle.reader.specs.Faults.{number_of, place_of, layer_of};
 ghost use Rattle.reader.specs.declared.faults.ReadFault.TheVariants.{Record as ByRecord};
 
-use layers::Layer;
+use layers::{Fault, Layer};
 use records::RecordFault;
 
 // A refusal of a reading.
@@ -29,7 +29,7 @@ pub enum ReadFault {
     ShortBuffer,
 }
 
-// Lets `?` pass a fault of the record up.
+// Lets `?` pass a fault of the record up. Written out, since contracts name the fault that comes of it.
 impl From<RecordFault> for ReadFault {
     ghost from_gives = { λ e r. r ≡ ByRecord e };
 
@@ -38,10 +38,14 @@ impl From<RecordFault> for ReadFault {
     }
 }
 
-impl ReadFault {
-    pub fn number(&self) -> u8
-        ensures { result ≡ number_of self.now }
-    {
+impl Fault for ReadFault {
+    ghost number = { number_of };
+
+    ghost place = { place_of };
+
+    ghost layer = { layer_of };
+
+    fn number(&self) -> u8 {
         match self {
             ReadFault::Record(f) => f.number(),
             ReadFault::Trailing(_) => 5,
@@ -55,9 +59,7 @@ impl ReadFault {
         }
     }
 
-    pub fn place(&self) -> usize
-        ensures { result ≡ place_of self.now }
-    {
+    fn place(&self) -> usize {
         match self {
             ReadFault::Record(f) => f.place(),
             ReadFault::Trailing(at) => *at,
@@ -70,9 +72,7 @@ impl ReadFault {
         }
     }
 
-    pub fn layer(&self) -> Layer
-        ensures { result ≡ layer_of self.now }
-    {
+    fn layer(&self) -> Layer {
         match self {
             ReadFault::Record(f) => f.layer(),
             _ => Layer::Record,

@@ -1,14 +1,14 @@
 // The guard over the result bytes of a reading.
-ghost use Rattle.std.specs.Prelude.{◌≡◌, ℕ, true, false, List, [], ◌++◌, length, if◌then◌else◌, Some, None};
-ghost use Rattle.reader.specs.Guarded.{zeros, left_by, Holds};
+ghost use Rattle.std.specs.Prelude.{◌≡◌, ℕ, true, false, List, [], ◌++◌, length};
+ghost use Rattle.reader.specs.Guarded.{left_by, Holds, Keeps};
 
-// Result bytes, which are wiped at the guard's end unless the reading was accepted.
+// Result bytes, which are wiped at the guard's end unless the reading was accepted. They are lent, and their content's length
+// stands beside them, since no heap is used.
 pub struct Guard<'a> {
     bytes: &'a mut [u8],
-    // How many bytes of content they hold.
-    len: usize,
-    // The content is longer than the bytes.
-    short: bool,
+    // How long the content is that they hold: none where it is longer than they are.
+    length: Option<usize>,
+    // A flag, since only `drop` may take apart what has one.
     accepted: bool,
 }
 
@@ -21,8 +21,7 @@ impl Drop for Guard<'_> {
         }
         let Guard {
             bytes: _,
-            len: _,
-            short: _,
+            length: _,
             accepted: _,
         } = self;
     }
@@ -39,17 +38,17 @@ impl<'a> Guard<'a> {
         bytes.fill(0);
         Guard {
             bytes,
-            len: 0,
-            short: false,
+            length: Some(0),
             accepted: false,
         }
     }
 
     // How long the content is, or none where it is longer than the bytes.
     pub fn length(&self) -> Option<usize>
-        ensures { result ≡ (if self.now.short then None else Some self.now.len) }
+        ensures { result ≡ self.now.length }
     {
-        if self.short { None } else { Some(self.len) }
+        let Guard { length, .. } = self;
+        *length
     }
 
     // The bytes stay.
@@ -64,18 +63,19 @@ impl<'a> Guard<'a> {
     // Adds a piece to the content. Where it does not fit, the content is too long from here on.
     pub fn push(&mut self, piece: &[u8])
         ensures value { (content : List ℕ) → Holds content self.old → Holds (content ++ piece.now) self.new }
-        ensures same { self.new.bytes.ghost_name ≡ self.old.bytes.ghost_name }
-        ensures len { length self.new.bytes.now ≡ length self.old.bytes.now }
-        ensures accepted { self.new.accepted ≡ self.old.accepted }
+        ensures keeps { Keeps self.old self.new }
     {
-        let at = self.len;
+        let Some(at) = self.length else {
+            return;
+        };
+        // In two steps, since the end is a sum that fits only where the piece does.
         let room = self.bytes.len();
-        if self.short || at > room || piece.len() > room - at {
-            self.short = true;
+        if at > room || piece.len() > room - at {
+            self.length = None;
             return;
         }
         let end = at + piece.len();
         self.bytes[at..end].copy_from_slice(piece);
-        self.len = end;
+        self.length = Some(end);
     }
 }

@@ -1,11 +1,11 @@
 // Reading a record: its kind, and its content into a buffer.
 ghost use Rattle.std.specs.Prelude.{◌≡◌, ℕ, List, [], ◌++◌, length};
 ghost use Rattle.std.proofs.Math.Utf8.{encodes};
-ghost use Rattle.reader.specs.Guarded.{Holds, Filled, ToldInto};
+ghost use Rattle.reader.specs.Guarded.{Holds, Keeps, Filled, ToldInto};
 ghost use Rattle.reader.specs.Pieces.{characters_of};
 ghost use Rattle.reader.specs.Reading.{content_of, record_of, read_of, Told};
 
-use crate::assemble::{Half, Piece, join};
+use crate::assemble::{Half, Joined, Piece, join};
 use crate::faults::ReadFault;
 use crate::guard::Guard;
 use crate::recognise::{check_page, recognise};
@@ -26,12 +26,9 @@ pub struct Reading {
 // Adds a piece to the content, as UTF-8.
 fn put_piece(piece: Piece, out: &mut Guard<'_>)
     ensures value { (content : List ℕ) → Holds content out.old → Holds (content ++ encodes (characters_of piece)) out.new }
-    ensures same { out.new.bytes.ghost_name ≡ out.old.bytes.ghost_name }
-    ensures len { length out.new.bytes.now ≡ length out.old.bytes.now }
-    ensures accepted { out.new.accepted ≡ out.old.accepted }
+    ensures keeps { Keeps out.old out.new }
 {
     match piece {
-        Piece::Nothing => {}
         Piece::Character(character) => {
             let mut room = [0; 4];
             out.push(character.encode_utf8(&mut room).as_bytes());
@@ -49,20 +46,20 @@ fn put_content<P: CodePage>(
 ) -> Result<(), ReadFault>
     requires { Holds [] out.old }
     ensures value { Filled (content_of (P.CodePage.decoded page.now) kind «record».now) result out.new }
-    ensures same { out.new.bytes.ghost_name ≡ out.old.bytes.ghost_name }
-    ensures len { length out.new.bytes.now ≡ length out.old.bytes.now }
-    ensures accepted { out.new.accepted ≡ out.old.accepted }
+    ensures keeps { Keeps out.old out.new }
 {
     let mut room = [ReadingState::outermost(); MAX_OPEN];
     let mut effects = Effects::new(record, kind, &mut room);
     let mut waiting: Option<Half> = None;
     while let Some(placed) = effects.next_effect() {
-        let joined = join(page, waiting, placed.effect, placed.place)?;
-        put_piece(joined.piece, out);
-        waiting = joined.waiting;
-        // Plain text is its own content, since ASCII is the same in every code page.
-        if waiting.is_none() {
-            out.push(effects.text());
+        match join(page, waiting, placed.effect, placed.place)? {
+            Joined::Waits(half) => waiting = Some(half),
+            Joined::Made(piece) => {
+                waiting = None;
+                put_piece(piece, out);
+                // Plain text is its own content, since ASCII is the same in every code page.
+                out.push(effects.text());
+            }
         }
     }
     match waiting {
@@ -75,9 +72,7 @@ fn put_content<P: CodePage>(
 fn read_into<P: CodePage>(bytes: &[u8], page: &P, out: &mut Guard<'_>) -> Result<Reading, ReadFault>
     requires { Holds [] out.old }
     ensures value { ToldInto (read_of (P.CodePage.number page.now) (P.CodePage.decoded page.now) (length out.old.bytes.now) bytes.now) result out.new }
-    ensures same { out.new.bytes.ghost_name ≡ out.old.bytes.ghost_name }
-    ensures len { length out.new.bytes.now ≡ length out.old.bytes.now }
-    ensures accepted { out.new.accepted ≡ out.old.accepted }
+    ensures keeps { Keeps out.old out.new }
 {
     let record = sound_record(bytes)?;
     let kind = recognise(record)?;

@@ -1,19 +1,17 @@
 // Which kind a record encapsulates, and whether it declares the given code page, by its first ten tokens.
 ghost use Rattle.std.specs.Prelude.{◌≡◌};
-ghost use Rattle.std.specs.Str.{bytes_eq};
 ghost use Rattle.tokens.specs.Shown.{shown as shown_token};
 ghost use Rattle.tokens.specs.Tokens.{items};
-ghost use Rattle.reader.specs.Recognition.{is_one, is_none, is_page, mark_of, sign_of, recognised, declares as declares_of, declared};
+ghost use Rattle.reader.specs.Recognition.{mark_of, sign_of, recognised, declares as declares_of, declared};
 
 use crate::faults::ReadFault;
-use crate::walk::token_at;
 use records::Kind;
-use tokens::Token;
+use tokens::{Token, Tokens};
 
 // How many tokens are gone through.
-const TOKENS: u32 = 10;
+const TOKENS: usize = 10;
 
-// What a token is where a mark is looked for.
+// What a token is where a mark is looked for. Three outcomes by name: an option in an option would not say which is which.
 #[derive(Clone, Copy)]
 pub enum Sign {
     Mark(Kind),
@@ -23,41 +21,15 @@ pub enum Sign {
     Stop,
 }
 
-fn is_named(name: &[u8], word: &[u8]) -> bool
-    ensures { result ≡ bytes_eq name.now word.now }
-{
-    name == word
-}
-
-fn is_one(number: Option<i32>) -> bool
-    ensures { result ≡ is_one number }
-{
-    match number {
-        Some(number) => number == 1,
-        None => false,
-    }
-}
-
-fn is_absent(number: Option<i32>) -> bool
-    ensures { result ≡ is_none number }
-{
-    match number {
-        Some(_) => false,
-        None => true,
-    }
-}
-
 // `\fromhtml` with the number 1, or `\fromtext` with no number.
 fn mark_of(name: &[u8], number: Option<i32>) -> Option<Kind>
     ensures { result ≡ mark_of name.now number }
 {
-    if is_named(name, b"fromhtml") && is_one(number) {
-        return Some(Kind::Html);
+    match number {
+        Some(1) if name == b"fromhtml".as_slice() => Some(Kind::Html),
+        None if name == b"fromtext".as_slice() => Some(Kind::Text),
+        _ => None,
     }
-    if is_named(name, b"fromtext") && is_absent(number) {
-        return Some(Kind::Text);
-    }
-    None
 }
 
 fn sign_of(token: Token<'_>) -> Sign
@@ -73,35 +45,18 @@ fn sign_of(token: Token<'_>) -> Sign
     }
 }
 
-// The kind by the first mark.
+// The kind by the first mark. A fault counts as the end of the tokens.
 pub fn recognise(bytes: &[u8]) -> Result<Kind, ReadFault>
     ensures { result ≡ recognised 10 (items 0 0 bytes.now) }
 {
-    let mut at = 0;
-    let mut left = TOKENS;
-    while let Some(found) = token_at(bytes, at) {
+    for (found, passed) in Tokens::new(bytes).map_while(Result::ok).zip(0..TOKENS) {
         match sign_of(found.token) {
             Sign::Mark(kind) => return Ok(kind),
-            Sign::Stop => return Err(ReadFault::NoEncapsulation(found.place)),
-            Sign::Pass => {
-                if left <= 1 {
-                    return Err(ReadFault::NoEncapsulation(found.place));
-                }
-            }
+            Sign::Pass if passed < TOKENS - 1 => {}
+            Sign::Pass | Sign::Stop => return Err(ReadFault::NoEncapsulation(found.place)),
         }
-        left -= 1;
-        at = found.end;
     }
     Err(ReadFault::NoEncapsulation(0))
-}
-
-fn is_page(number: Option<i32>, page: u16) -> bool
-    ensures { result ≡ is_page page number }
-{
-    match number {
-        Some(number) => number == i32::from(page),
-        None => false,
-    }
 }
 
 // Whether a token is `\ansicpg`, and then whether its number is that of the page.
@@ -109,35 +64,25 @@ fn declares(token: Token<'_>, page: u16) -> Option<bool>
     ensures { result ≡ declares_of page (shown_token token.entry) }
 {
     match token {
-        Token::Word { name, number } => {
-            if is_named(name, b"ansicpg") {
-                Some(is_page(number, page))
-            } else {
-                None
-            }
-        }
+        Token::Word {
+            name: b"ansicpg",
+            number,
+        } => Some(number == Some(i32::from(page))),
         _ => None,
     }
 }
 
-// The first `\ansicpg` declares the page, and it is the given one.
+// The first `\ansicpg` declares the page, and it is the given one. A fault counts as the end of the tokens.
+#[tactic(auto, using(crate::proofs::Marks::page_on))]
 pub fn check_page(bytes: &[u8], page: u16) -> Result<(), ReadFault>
     ensures { result ≡ declared page 10 (items 0 0 bytes.now) }
 {
-    let mut at = 0;
-    let mut left = TOKENS;
-    while left > 0 {
-        let Some(found) = token_at(bytes, at) else {
-            break;
-        };
-        if let Some(same) = declares(found.token, page) {
-            if same {
-                return Ok(());
-            }
-            return Err(ReadFault::WrongPage(found.place));
+    for found in Tokens::new(bytes).map_while(Result::ok).take(TOKENS) {
+        match declares(found.token, page) {
+            Some(true) => return Ok(()),
+            Some(false) => return Err(ReadFault::WrongPage(found.place)),
+            None => {}
         }
-        left -= 1;
-        at = found.end;
     }
     Err(ReadFault::WrongPage(0))
 }

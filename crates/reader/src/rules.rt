@@ -1,6 +1,7 @@
 // The rules from tokens to effects: what a token does to its group, and what it adds.
 ghost use Rattle.std.specs.Prelude.{◌≡◌, if◌then◌else◌};
 ghost use Rattle.reader.specs.Rules.{unit_of, still as still_of, adds as adds_to, fallback_turn, unicode_turn, content_turn, symbol_text, symbol_turn, plain_turn, means as means_of, is_star, turns_off, make_tag, silence, turn_of as turn_by, takes_text};
+ghost use Rattle.reader.specs.Words.{is_htmltag};
 ghost use Rattle.std.specs.Option.{option_map};
 ghost use Rattle.std.specs.Str.{chars};
 ghost use Rattle.reader.specs.Shown.{shown_effect, shown_turn};
@@ -69,11 +70,11 @@ fn adds(effect: Effect) -> Turn
 fn unit_of(number: i32) -> Effect
     ensures { shown_effect result ≡ unit_of number }
 {
-    if number < -32_768 || number > 65_535 {
-        return Effect::Beyond;
+    match (u16::try_from(number), i16::try_from(number)) {
+        (Ok(unit), _) => Effect::Unit(unit),
+        (_, Ok(unit)) => Effect::Unit(unit.cast_unsigned()),
+        _ => Effect::Beyond,
     }
-    let unit = if number < 0 { number + 65_536 } else { number };
-    Effect::Unit(unit as u16)
 }
 
 // A word that means something to content.
@@ -141,55 +142,57 @@ fn symbol_text(kind: Kind, byte: u8) -> Option<&'static str>
     }
 }
 
-// A token where nothing keeps it from having effect, with what it means as a word.
-fn plain_turn(kind: Kind, state: ReadingState, token: Token<'_>, word: Word) -> Turn
+// A token where nothing keeps it from having effect, with what it means as a word, which is looked up once for a token.
+fn plain_turn(kind: Kind, state: ReadingState, token: Token<'_>, word: Option<Word>) -> Turn
     requires { word ≡ means_of (shown_token token) }
     ensures { shown_turn state result ≡ plain_turn kind state (shown_token token.entry) }
 {
     match token {
         Token::Word { number, .. } => match word {
-            Word::Content(content) => content_turn(kind, state, content, number),
+            Some(Word::Content(content)) => content_turn(kind, state, content, number),
             _ => still(),
         },
         Token::Symbol(byte) => symbol_turn(kind, byte),
-        Token::Hex(byte) => adds(Effect::Byte(byte)),
-        Token::Text(byte) => adds(Effect::Byte(byte)),
-        Token::Open => still(),
-        Token::Close => still(),
+        Token::Hex(byte) | Token::Text(byte) => adds(Effect::Byte(byte)),
+        Token::Open | Token::Close => still(),
     }
 }
 
-// What a token means as a word.
-pub fn means(token: Token<'_>) -> Word
+// What a token means as a word, if it means anything.
+pub fn means(token: Token<'_>) -> Option<Word>
     ensures { result ≡ means_of (shown_token token.entry) }
 {
     match token {
         Token::Word { name, .. } => word_of(name),
-        _ => Word::Other,
+        _ => None,
     }
+}
+
+// Whether the token is the word `\htmltag`.
+pub fn is_htmltag(token: Token<'_>) -> bool
+    ensures { result ≡ is_htmltag (means_of (shown_token token.entry)) }
+{
+    matches!(means(token), Some(Word::Htmltag))
 }
 
 // Whether the token is the symbol `\*`.
 pub fn is_star(token: Token<'_>) -> bool
     ensures { result ≡ is_star (shown_token token.entry) }
 {
-    match token {
-        Token::Symbol(byte) => byte == b'*',
-        _ => false,
-    }
+    matches!(token, Token::Symbol(b'*'))
 }
 
 // Whether a word has the number 0.
 fn turns_off(token: Token<'_>) -> bool
     ensures { result ≡ turns_off (shown_token token.entry) }
 {
-    match token {
+    matches!(
+        token,
         Token::Word {
-            number: Some(number),
+            number: Some(0),
             ..
-        } => number == 0,
-        _ => false,
-    }
+        }
+    )
 }
 
 // What a token other than a brace does where none is skipped. `tag_next` says whether `\htmltag` comes next.
@@ -198,7 +201,7 @@ pub fn turn_of(kind: Kind, state: ReadingState, token: Token<'_>, tag_next: bool
 {
     let html = kind.is_html();
     let word = means(token);
-    let htmlrtf = word.is_htmlrtf();
+    let htmlrtf = matches!(word, Some(Word::Htmlrtf));
     if state.silent {
         return still();
     }
@@ -215,7 +218,7 @@ pub fn turn_of(kind: Kind, state: ReadingState, token: Token<'_>, tag_next: bool
         if is_star(token) {
             return becomes(starred(html && tag_next, state));
         }
-        if word.is_silent() {
+        if matches!(word, Some(Word::Silent)) {
             return becomes(starred(false, state));
         }
     }

@@ -1,5 +1,5 @@
 // The checks of given bytes before a record is read.
-ghost use Rattle.std.specs.Prelude.{◌≡◌, drop};
+ghost use Rattle.std.specs.Prelude.{◌≡◌, ◌<◌, ◌≤◌, not, length, drop, position, IfSome};
 ghost use Rattle.reader.specs.Reading.{may_trail, trailing as trailing_of, sound_record, shown_bytes};
 
 use crate::faults::ReadFault;
@@ -14,18 +14,23 @@ fn may_trail(byte: u8) -> bool
     matches!(byte, b'\r' | b'\n' | 0)
 }
 
+// The first byte that may not stand after a record.
+fn first_trailing(bytes: &[u8]) -> Option<usize>
+    ensures value { result ≡ position (λ b. not (may_trail b)) bytes.now }
+    ensures bound { IfSome result (λ n. n < length bytes.now) }
+{
+    bytes.iter().position(|byte| !may_trail(*byte))
+}
+
 // After a record only CR, LF and NUL may stand.
 fn check_trailing(bytes: &[u8], from: usize) -> Result<(), ReadFault>
+    requires { from ≤ length bytes.now }
     ensures { result ≡ trailing_of from (drop from bytes.now) }
 {
-    let mut at = from;
-    while at < bytes.len() {
-        if !may_trail(bytes[at]) {
-            return Err(ReadFault::Trailing(at));
-        }
-        at += 1;
+    match first_trailing(&bytes[from..]) {
+        Some(more) => Err(ReadFault::Trailing(from + more)),
+        None => Ok(()),
     }
-    Ok(())
 }
 
 // The record that the bytes are, with nothing else after it.

@@ -9,7 +9,7 @@ ghost use Rattle.reader.specs.Shown.{shown_effect};
 ghost use Rattle.reader.specs.Walk.{to_come, as_bytes, in_text, text_run, most, states as states_of, from, rest, Gives};
 ghost use Rattle.reader.specs.Tokens.{Sound};
 
-use crate::rules::{Effect, is_star, means, takes_text, turn_of};
+use crate::rules::{Effect, is_htmltag, is_star, takes_text, turn_of};
 use crate::state::ReadingState;
 use groups::{MAX_OPEN, Stack};
 use records::Kind;
@@ -49,7 +49,7 @@ impl<'r, 's> Effects<'r, 's> {
         }
     }
 
-    // The next effect, or none at the record's end.
+    // The next effect, or none at the record's end. No iterator: between two effects its caller also takes runs of text.
     pub fn next_effect(&mut self) -> Option<Placed>
         ensures { Gives (to_come self.old) result (to_come self.new) }
     {
@@ -64,7 +64,8 @@ impl<'r, 's> Effects<'r, 's> {
         None
     }
 
-    // One token: its effect, if it has one.
+    // One token: its effect, if it has one. That the bytes stay is said here and twice below: it relates before and after, so no
+    // type can say it.
     fn step(&mut self, found: Found<'_>) -> Option<Effect>
         requires next { Found1 (good (shown_token found.token) found.place found.end) ≡ next_item self.old.at (drop self.old.at self.old.bytes.now) }
         requires after { self.old.at ≤ found.end }
@@ -159,19 +160,16 @@ impl<'r, 's> Effects<'r, 's> {
             return false;
         }
         match token_at(self.bytes, self.at) {
-            Some(found) => means(found.token).is_htmltag(),
+            Some(found) => is_htmltag(found.token),
             None => false,
         }
     }
 }
 
 // The next token of a record that is known to be sound.
-pub fn token_at<'a>(bytes: &'a [u8], at: usize) -> Option<Found<'a>>
+fn token_at<'a>(bytes: &'a [u8], at: usize) -> Option<Found<'a>>
     ensures value { Sound result (next_item at (drop at bytes.now)) }
     ensures bound { IfSome result (λ f. (at ≤ f.place) × (f.place < f.end) × (f.end ≤ length bytes.now)) }
 {
-    match next_token(bytes, at) {
-        Ok(found) => found,
-        Err(_) => None,
-    }
+    next_token(bytes, at).ok().flatten()
 }

@@ -7,10 +7,11 @@ ghost use Rattle.pages.specs.Windows.{chars1252};
 ghost use Rattle.reader.specs.Reading.{read_of};
 ghost use Rattle.reader_abi.specs.Answers.{Answered};
 
+use layers::Fault;
 use pages::{CodePage, Windows1252};
 use reader::read;
 
-// What a reading tells.
+// What a reading tells, laid out for C: numbers and flags, and no enum.
 #[repr(C)]
 pub struct Answer {
     // The number of the refusal, or 0 where the reading was accepted.

@@ -6,6 +6,7 @@ mod tests {
     use pages::{CodePage, Windows1251};
     use reader::read;
     use records::Kind;
+    use std::alloc::{AllocError, Global};
     use std::test::Fail;
 
     // The HTML, line by line, without the space that ends each line in print.
@@ -82,82 +83,37 @@ mod tests {
     // Room for either, with more than is needed.
     const ROOM: usize = 4096;
 
-    // Bytes one after the other, as far as there is room.
-    #[derive(Drop)]
-    struct Bytes {
-        held: [u8; ROOM],
-        len: usize,
-    }
-
-    impl Bytes {
-        fn new() -> Self {
-            Bytes {
-                held: [0; ROOM],
-                len: 0,
-            }
-        }
-
-        fn push(&mut self, byte: u8) {
-            if self.len < ROOM {
-                self.held[self.len] = byte;
-                self.len += 1;
-            }
-        }
-
-        fn bytes(&self) -> &[u8] {
-            if self.len <= ROOM {
-                &self.held[..self.len]
-            } else {
-                &self.held
-            }
-        }
-    }
-
     // The lines, with LF after each.
-    fn joined(lines: &[&'static str]) -> Bytes {
-        let mut all = Bytes::new();
+    fn joined(heap: Global, lines: &[&'static str]) -> Result<Vec<u8>, AllocError> {
+        let mut all = Vec::new(heap);
         for line in lines {
-            for byte in line.as_bytes() {
-                all.push(*byte);
-            }
-            all.push(b'\n');
+            all.extend_from_slice(line.as_bytes())?;
+            all.push(b'\n')?;
         }
-        all
+        Ok(all)
     }
 
     // White space counts for nothing in HTML, and print does not tell it.
-    fn packed(bytes: &[u8]) -> Bytes {
-        let mut all = Bytes::new();
-        for byte in bytes {
-            if !matches!(*byte, b' ' | b'\t' | b'\r' | b'\n') {
-                all.push(*byte);
-            }
-        }
-        all
+    fn packed(heap: Global, bytes: &[u8]) -> Result<Vec<u8>, AllocError> {
+        bytes
+            .iter()
+            .copied()
+            .filter(|byte| !matches!(*byte, b' ' | b'\t' | b'\r' | b'\n'))
+            .collect(heap)
     }
 
     #[test]
     fn the_public_example_gives_its_html(rt: HostRuntime) -> Result<(), Fail> {
-        let rtf = joined(&RTF);
-        let html = joined(&HTML);
+        let heap = rt.alloc();
+        let rtf = joined(heap, &RTF)?;
+        let html = joined(heap, &HTML)?;
         let mut content = [0; ROOM];
-        match read(rtf.bytes(), &Windows1251, &mut content) {
-            Ok(reading) => {
-                assert_eq!(rt; reading.kind, Kind::Html);
-                let told = packed(&content[..reading.length]);
-                let printed = packed(html.bytes());
-                assert_eq!(rt; told.len, printed.len, "as long, white space apart");
-                assert_eq!(rt;
-                    told.bytes() == printed.bytes(),
-                    true,
-                    "the same bytes, white space apart"
-                );
-                Ok(())
-            }
-            Err(fault) => {
-                assert_eq!(rt; fault.number(), 0, "the example is read");
-                Ok(())
-            },
-        }
+        let reading = read(&rtf, &Windows1251, &mut content)?;
+        assert_eq!(rt; reading.kind, Kind::Html);
+        let told = packed(heap, &content[..reading.length])?;
+        let printed = packed(heap, &html)?;
+        assert_eq!(rt; told.len(), printed.len(), "as long, white space apart");
+        assert!(rt; told == printed, "the same bytes, white space apart");
+        Ok(())
     }
 }

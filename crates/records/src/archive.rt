@@ -7,13 +7,14 @@ ghost use Rattle.std.specs.Iterator.{at_most};
 
 use crate::archive_fault::ArchiveFault;
 use crate::parts::{Part, take_apart};
+use layers::Fault;
 
 // A cursor over an archive. It ends with the archive, or after the first refusal.
 #[derive(Drop)]
 pub struct Records<'a> {
     archive: &'a [u8],
-    at: usize,
-    done: bool,
+    // Where the next record begins: nowhere after a refusal.
+    at: Option<usize>,
 }
 
 impl<'a> Records<'a> {
@@ -25,41 +26,12 @@ impl<'a> Records<'a> {
     {
         Records {
             archive,
-            at: 0,
-            done: false,
-        }
-    }
-
-    // The next record with its place in the archive, or the refusal that ends it.
-    pub fn next_record(&mut self) -> Option<Result<Part<'a>, ArchiveFault>>
-        ensures { Gives (to_come self.old) result (to_come self.new) }
-    {
-        let at = self.at;
-        if self.done || at >= self.archive.len() {
-            return None;
-        }
-        match take_apart(&self.archive[at..]) {
-            Ok((record, rest)) => {
-                self.at = at + rest.place;
-                Some(Ok(Part {
-                    bytes: record.bytes,
-                    place: at,
-                }))
-            }
-            Err(fault) => {
-                self.done = true;
-                let place = at + fault.place();
-                Some(Err(ArchiveFault {
-                    fault,
-                    rest: at,
-                    place,
-                }))
-            }
+            at: Some(0),
         }
     }
 }
 
-// The same records for a `for`.
+// Gives the next record with its place in the archive, or the refusal that ends it.
 impl<'a> Iterator for Records<'a> {
     type Item = Result<Part<'a>, ArchiveFault>;
 
@@ -68,6 +40,27 @@ impl<'a> Iterator for Records<'a> {
     ghost remaining = { λ s. at_most (count_of (to_come s)) };
 
     fn next(&mut self) -> Option<Result<Part<'a>, ArchiveFault>> {
-        self.next_record()
+        let at = self.at?;
+        if at >= self.archive.len() {
+            return None;
+        }
+        match take_apart(&self.archive[at..]) {
+            Ok((record, rest)) => {
+                self.at = Some(at + rest.place);
+                Some(Ok(Part {
+                    bytes: record.bytes,
+                    place: at,
+                }))
+            }
+            Err(fault) => {
+                self.at = None;
+                let place = at + fault.place();
+                Some(Err(ArchiveFault {
+                    fault,
+                    rest: at,
+                    place,
+                }))
+            }
+        }
     }
 }

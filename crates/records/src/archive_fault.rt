@@ -1,9 +1,8 @@
 // The refusal that ends the taking apart of an archive.
-ghost use Rattle.std.specs.Prelude.{◌≡◌};
 ghost use Rattle.records.specs.Faults.{number_of, layer_of};
 
 use crate::faults::RecordFault;
-use layers::Layer;
+use layers::{Fault, Layer};
 
 // A fault of a record, and where in the archive it was met.
 #[derive(Clone, Copy)]
@@ -12,26 +11,27 @@ pub struct ArchiveFault {
     pub fault: RecordFault,
     // The place of that rest.
     pub rest: usize,
-    // The place of the fault, counted from the archive's start.
+    // The place of the fault, counted from the archive's start. A field, though it is a sum: that the sum fits, as a fact of the
+    // type, would ask a proof of whoever makes one.
     pub place: usize,
 }
 
-impl ArchiveFault {
-    pub fn number(&self) -> u8
-        ensures { result ≡ number_of self.now.fault }
-    {
+impl Fault for ArchiveFault {
+    ghost number = { λ f. number_of f.fault };
+
+    ghost place = { λ f. f.place };
+
+    ghost layer = { λ f. layer_of f.fault };
+
+    fn number(&self) -> u8 {
         self.fault.number()
     }
 
-    pub fn place(&self) -> usize
-        ensures { result ≡ self.now.place }
-    {
+    fn place(&self) -> usize {
         self.place
     }
 
-    pub fn layer(&self) -> Layer
-        ensures { result ≡ layer_of self.now.fault }
-    {
+    fn layer(&self) -> Layer {
         self.fault.layer()
     }
 }

@@ -4,7 +4,7 @@ ghost use Rattle.records.specs.Faults.{number_of, place_of, layer_of};
 ghost use Rattle.records.specs.declared.faults.RecordFault.TheVariants.{Group as ByGroup};
 
 use groups::GroupFault;
-use layers::Layer;
+use layers::{Fault, Layer};
 
 // A fault of a record, or of its groups or tokens.
 #[derive(Clone, Copy, PartialEq, Eq, Debug)]
@@ -15,7 +15,7 @@ pub enum RecordFault {
     Group(GroupFault),
 }
 
-// Lets `?` pass a fault of the groups up.
+// Lets `?` pass a fault of the groups up. Written out, since contracts name the fault that comes of it.
 impl From<GroupFault> for RecordFault {
     ghost from_gives = { λ e r. r ≡ ByGroup e };
 
@@ -24,28 +24,28 @@ impl From<GroupFault> for RecordFault {
     }
 }
 
-impl RecordFault {
-    pub fn number(&self) -> u8
-        ensures { result ≡ number_of self.now }
-    {
+impl Fault for RecordFault {
+    ghost number = { number_of };
+
+    ghost place = { place_of };
+
+    ghost layer = { layer_of };
+
+    fn number(&self) -> u8 {
         match self {
             RecordFault::NotRtf => 1,
             RecordFault::Group(f) => f.number(),
         }
     }
 
-    pub fn place(&self) -> usize
-        ensures { result ≡ place_of self.now }
-    {
+    fn place(&self) -> usize {
         match self {
             RecordFault::NotRtf => 0,
             RecordFault::Group(f) => f.place(),
         }
     }
 
-    pub fn layer(&self) -> Layer
-        ensures { result ≡ layer_of self.now }
-    {
+    fn layer(&self) -> Layer {
         match self {
             RecordFault::NotRtf => Layer::Record,
             RecordFault::Group(f) => f.layer(),

@@ -1,6 +1,8 @@
 // The kinds of content.
-ghost use Rattle.std.specs.Prelude.{◌≡◌};
-ghost use Rattle.records.specs.Kinds.{is_html};
+ghost use Rattle.std.specs.Prelude.{◌≡◌, Some};
+ghost use Rattle.records.specs.Kinds.{is_html, name_of};
+
+use std::fmt;
 
 // What a record encapsulates.
 #[derive(Clone, Copy, PartialEq, Eq, Debug)]
@@ -14,5 +16,17 @@ impl Kind {
         ensures { result ≡ is_html self }
     {
         matches!(self, Kind::Html)
+    }
+}
+
+// Prints `html` or `text`.
+impl fmt::Display for Kind {
+    ghost output = { λ kind. Some (name_of kind) };
+
+    fn fmt<W: fmt::Write>(&self, f: &mut fmt::Formatter<W>) -> fmt::Result {
+        f.write_str(match self {
+            Kind::Html => "html",
+            Kind::Text => "text",
+        })
     }
 }

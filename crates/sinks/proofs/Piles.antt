@@ -1,64 +1,81 @@
--- What a pile holds, has space for and keeps in order, one byte on.
-use Rattle.std.proofs.Common.{◌≡◌, ℕ, zero, suc, ◌+◌, ◌-◌, ◌*◌, ◌<◌, ◌≤◌, min, List, [], ◌∷◌, ◌++◌, length, get_or, take, drop, set, replicate, sym, refl, ap, ◌∙◌, append_assoc, append-nil, add-one, arith, length-append, length-set, length-take}
+-- What a pile that is filled in turn holds, has space for and keeps in order, one card or one byte on.
+use Rattle.std.proofs.Common.{◌≡◌, ℕ, zero, suc, ◌+◌, ◌-◌, ◌*◌, ◌<◌, ◌≤◌, List, [], ◌∷◌, ◌++◌, length, get_or, take, drop, set, replicate, sym, refl, ap, ◌∙◌, append_assoc, append-nil, take_all, add-one, arith, length-append, length-set}
 use lib.ListN.{length-replicate}
-use Rattle.std.proofs.lemmas.List.{drop_all, drop-drop, drop_more, drop-replicate, get_or-set_same, flat_map_more, replicate_more, set_at, take_more, take_more_set}
+use Rattle.std.proofs.lemmas.Grind.{common_steps}
+use Rattle.std.proofs.lemmas.List.{drop-drop, drop-replicate, flat_map_more, get_or-set_same, take_more}
+use Rattle.std.proofs.lemmas.List.Folds.{length-flat_map-take}
+use borrow.Rule.Slice.PartMut.{put_mid}
 use Rattle.std.specs.List.{flat_map}
+use Rattle.layers.proofs.Copies.{copied_more, over_zeros}
 use Rattle.sinks.specs.declared.cards.Card.{Card}
-use Rattle.sinks.specs.Pile.{front, dealt, room_in, blank, zeros, Filled}
+use Rattle.sinks.specs.Cards.{front, dealt, room_in, blank, zeros, Filled, HasPlace}
 
 -- what a read of a card has for its default
 abbrev pub none : Card
 none = record { count = 0; «data» = [] }
 
--- The bytes of one card.
+-- The card that is being filled stands in the pile or, where there is none, just past it, and counts no more than it has.
 
-pub front_add : (count i : ℕ) (bytes : List ℕ) (b : ℕ) → count < 127 → i ≡ count → i < length bytes → take (min (count + 1) 127) (set bytes i b) ≡ take (min count 127) bytes ++ b ∷ []
-front_add count i bytes b h e l =
-    let more : min (count + 1) 127 ≡ i + 1 = omega arith in
-    let same : min count 127 ≡ i = omega arith in
-    rw (more, same) (take_more_set bytes i b l)
+pub filled_within : (at : ℕ) (cs : List Card) → Filled at cs → at ≤ length cs
+filled_within zero cs f = omega arith
+filled_within (suc at) [] f = absurd f
+filled_within (suc at) (c ∷ cs) f = omega (arith, filled_within at cs f.1)
 
-pub front_begin : (bytes : List ℕ) (b : ℕ) → 0 < length bytes → take (min 1 127) (set bytes 0 b) ≡ b ∷ []
-front_begin [] b l = absurd (omega arith)
-front_begin (x ∷ xs) b l = refl
+pub filled_count : (at : ℕ) (cs : List Card) → Filled at cs → (get_or cs at none).count ≤ 127
+filled_count zero [] f = omega arith
+filled_count zero (c ∷ cs) f = f.0
+filled_count (suc at) [] f = absurd f
+filled_count (suc at) (c ∷ cs) f = filled_count at cs f.1
 
--- Cards that are cleared one after the other.
+begun_most : (at : ℕ) (cs : List Card) (i : ℕ) → Filled at cs → (get_or (take (suc at) cs) i none).count ≤ 127
+begun_most zero [] i f = omega arith
+begun_most zero (c ∷ cs) zero f = f.0
+begun_most zero (c ∷ cs) (suc i) f = omega arith
+begun_most (suc at) [] i f = absurd f
+begun_most (suc at) (c ∷ cs) zero f = omega (arith, f.0)
+begun_most (suc at) (c ∷ cs) (suc i) f = begun_most at cs i f.1
 
-pub cleared_more : (n : ℕ) (cs ds : List Card) → n < length ds → cs ≡ replicate n blank ++ drop n ds → set cs n blank ≡ replicate (n + 1) blank ++ drop (n + 1) ds
-cleared_more n cs ds h e =
-    let done = replicate n blank in
-    let rest = drop (n + 1) ds in
-    ap (λ l. set l n blank) (e ∙ ap (λ l. done ++ l) (drop_more ds n none h)) ∙ set_at done (get_or ds n none) rest blank n (length-replicate n blank) ∙ sym (append_assoc done (blank ∷ []) rest) ∙ ap (λ l. l ++ rest) (replicate_more n blank)
+begun_full : (at : ℕ) (cs : List Card) (i : ℕ) → Filled at cs → suc i < length (take (suc at) cs) → (get_or (take (suc at) cs) i none).count ≡ 127
+begun_full zero [] i f h = absurd (omega arith)
+begun_full zero (c ∷ cs) i f h = absurd (omega arith)
+begun_full (suc at) [] i f h = absurd f
+begun_full (suc at) (c ∷ cs) zero f h = f.0
+begun_full (suc at) (c ∷ cs) (suc i) f h = begun_full at cs i f.1 (omega arith)
+
+pub begun_count : (at : ℕ) (cs begun : List Card) (i : ℕ) → begun ≡ take (suc at) cs → Filled at cs → (get_or begun i none).count ≤ 127
+begun_count at cs begun i e f = rw e (begun_most at cs i f)
+
+pub full_before : (at : ℕ) (cs begun : List Card) (i : ℕ) → begun ≡ take (suc at) cs → Filled at cs → i + 1 < length begun → (get_or begun i none).count ≡ 127
+full_before at cs begun i e f h =
+    let l : suc i < length (take (suc at) cs) = omega (arith, ap length e) in
+    rw e (begun_full at cs i f l)
 
 -- The bytes that are held.
 
 pub joined_next : (cs : List Card) (i : ℕ) → i < length cs → flat_map front (take (i + 1) cs) ≡ flat_map front (take i cs) ++ front (get_or cs i none)
 joined_next cs i h = rw (take_more cs i none h) (sym (flat_map_more front [] (take i cs) (get_or cs i none)))
 
-joined_most : (n : ℕ) (cs : List Card) → length (flat_map front (take n cs)) ≤ length (flat_map front cs)
-joined_most zero cs = omega arith
-joined_most (suc n) [] = omega arith
-joined_most (suc n) (c ∷ cs) = omega (arith, length-append (front c) (flat_map front (take n cs)), length-append (front c) (flat_map front cs), joined_most n cs)
+-- One more card's bytes, copied after those of the cards before it.
+pub copied_card : (cs : List Card) (i k at : ℕ) (bytes part out before : List ℕ) → i < length cs → bytes ≡ front (get_or cs i none) → part ≡ bytes → k ≡ length bytes → length (flat_map front (take i cs)) ≡ at → out ≡ flat_map front (take i cs) ++ drop (length (flat_map front (take i cs))) before → put_mid at k out part ≡ flat_map front (take (i + 1) cs) ++ drop (length (flat_map front (take (i + 1) cs))) before
+copied_card cs i k at bytes part out before h v p n a o =
+    copied_more (flat_map front (take i cs)) (front (get_or cs i none)) part out before at k a (n ∙ ap length v) (p ∙ v) o ∙ ap (λ l. l ++ drop (length l) before) (sym (joined_next cs i h))
 
-pub joined_length : (cs : List Card) (i : ℕ) → i < length cs → length (flat_map front (take (i + 1) cs)) ≡ length (flat_map front (take i cs)) + length (front (get_or cs i none))
-joined_length cs i h = ap length (joined_next cs i h) ∙ length-append (flat_map front (take i cs)) (front (get_or cs i none))
+pub copied_length : (at : ℕ) (cs begun : List Card) (i : ℕ) (bytes : List ℕ) → begun ≡ take (suc at) cs → Filled at cs → i + 1 < length begun → bytes ≡ front (get_or begun i none) → length bytes ≡ (get_or begun i none).count → length (flat_map front (take i begun)) ≡ 127 * i → length (flat_map front (take (i + 1) begun)) ≡ 127 * (i + 1)
+copied_length at cs begun i bytes e f h v l d = omega (arith, full_before at cs begun i e f h, ap length v, ap length (joined_next begun i (omega arith)), length-append (flat_map front (take i begun)) (front (get_or begun i none)))
 
-pub joined_within : (cs : List Card) (i : ℕ) → i < length cs → length (flat_map front (take i cs)) + length (front (get_or cs i none)) ≤ length (flat_map front cs)
-joined_within cs i h = omega (arith, joined_length cs i h, joined_most (i + 1) cs)
+-- It fits where all of them do.
+pub card_fits : (at : ℕ) (cs begun : List Card) (i n size : ℕ) (bytes : List ℕ) → begun ≡ take (suc at) cs → i < length begun → bytes ≡ front (get_or begun i none) → length (flat_map front (take i begun)) ≡ 127 * i → n ≡ length (dealt at cs) → n ≤ size → 127 * i + length bytes ≤ size
+card_fits at cs begun i n size bytes e h v a l m = omega (arith, ap length v, ap (λ b. length (flat_map front b)) e, length-flat_map-take front begun i none h)
+
+-- After the last of them zeros are left.
+pub all_copied : (at : ℕ) (cs begun : List Card) (i n size : ℕ) (out before : List ℕ) → begun ≡ take (suc at) cs → length begun ≤ i → before ≡ zeros size → n ≡ length (dealt at cs) → out ≡ flat_map front (take i begun) ++ drop (length (flat_map front (take i begun))) before → out ≡ dealt at cs ++ zeros (size - n)
+all_copied at cs begun i n size out before e h z l o =
+    over_zeros (dealt at cs) out before size n l z (o ∙ ap (λ b. flat_map front b ++ drop (length (flat_map front b)) before) (take_all i begun h ∙ e))
 
 pub dealt_add : (at : ℕ) (cs : List Card) (c' : Card) (b : ℕ) → at < length cs → front c' ≡ front (get_or cs at none) ++ b ∷ [] → dealt at (set cs at c') ≡ dealt at cs ++ b ∷ []
 dealt_add at [] c' b h f = absurd (omega arith)
 dealt_add zero (c ∷ cs) c' b h f = append-nil (front c') ∙ f ∙ ap (λ l. l ++ b ∷ []) (sym (append-nil (front c)))
 dealt_add (suc at) (c ∷ cs) c' b h f = ap (λ l. front c ++ l) (dealt_add at cs c' b (omega arith) f) ∙ sym (append_assoc (front c) (dealt at cs) (b ∷ []))
-
-dealt_next : (at : ℕ) (cs : List Card) (c' : Card) (b : ℕ) → suc at < length cs → front c' ≡ b ∷ [] → dealt (suc at) (set cs (suc at) c') ≡ dealt at cs ++ b ∷ []
-dealt_next at [] c' b h f = absurd (omega arith)
-dealt_next zero (c ∷ []) c' b h f = absurd (omega arith)
-dealt_next zero (c ∷ d ∷ cs) c' b h f = ap (λ l. front c ++ l) (append-nil (front c') ∙ f) ∙ ap (λ l. l ++ b ∷ []) (sym (append-nil (front c)))
-dealt_next (suc at) (c ∷ cs) c' b h f = ap (λ l. front c ++ l) (dealt_next at cs c' b (omega arith) f) ∙ sym (append_assoc (front c) (dealt at cs) (b ∷ []))
-
-pub dealt_begin : (at : ℕ) (cs : List Card) (c' : Card) (b : ℕ) → at + 1 < length cs → front c' ≡ b ∷ [] → dealt (at + 1) (set cs (at + 1) c') ≡ dealt at cs ++ b ∷ []
-dealt_begin at cs c' b h f = rw (add-one at) (dealt_next at cs c' b (omega arith) f)
 
 -- The space that is left.
 
@@ -67,16 +84,7 @@ room_is at [] h = absurd (omega arith)
 room_is zero (c ∷ cs) h = omega arith
 room_is (suc at) (c ∷ cs) h = omega (arith, room_is at cs (omega arith))
 
-pub room_none : (at : ℕ) (cs : List Card) → length cs ≤ at → room_in (drop at cs) ≡ 0
-room_none at cs h = ap room_in (drop_all at cs h)
-
-pub room_last : (at : ℕ) (cs : List Card) → at < length cs → length cs ≤ suc at → 127 ≤ (get_or cs at none).count → room_in (drop at cs) ≡ 0
-room_last at cs h l f = omega (arith, room_is at cs h)
-
-pub room_some : (at : ℕ) (cs : List Card) → at < length cs → (get_or cs at none).count < 127 → 0 < room_in (drop at cs)
-room_some at cs h l = omega (arith, room_is at cs h)
-
-pub room_after : (at : ℕ) (cs : List Card) (c' : Card) → at < length cs → room_in (drop at (set cs at c')) ≡ 127 - c'.count + 127 * (length cs - suc at)
+room_after : (at : ℕ) (cs : List Card) (c' : Card) → at < length cs → room_in (drop at (set cs at c')) ≡ 127 - c'.count + 127 * (length cs - suc at)
 room_after at cs c' h =
     let l : at < length (set cs at c') = simp length-set h in
     room_is at (set cs at c') l ∙ simp (length-set, get_or-set_same cs at c' none h)
@@ -84,22 +92,10 @@ room_after at cs c' h =
 pub room_add : (at : ℕ) (cs : List Card) (c' : Card) → at < length cs → (get_or cs at none).count < 127 → c'.count ≡ (get_or cs at none).count + 1 → room_in (drop at (set cs at c')) + 1 ≡ room_in (drop at cs)
 room_add at cs c' h l e = omega (arith, room_is at cs h, room_after at cs c' h)
 
-room_next : (at : ℕ) (cs : List Card) (c' : Card) → suc at < length cs → 127 ≤ (get_or cs at none).count → c'.count ≡ 1 → (0 < room_in (drop at cs)) × (room_in (drop (suc at) (set cs (suc at) c')) + 1 ≡ room_in (drop at cs))
-room_next at cs c' h l e = let is = room_is at cs (omega arith) in (omega arith, omega (arith, room_after (suc at) cs c' h))
+-- All that is held and left is the whole pile.
 
-pub room_begin : (at : ℕ) (cs : List Card) (c' : Card) → at + 1 < length cs → 127 ≤ (get_or cs at none).count → c'.count ≡ 1 → (0 < room_in (drop at cs)) × (room_in (drop (at + 1) (set cs (at + 1) c')) + 1 ≡ room_in (drop at cs))
-room_begin at cs c' h l e = rw (add-one at) (room_next at cs c' (omega arith) l e)
-
--- All that is held and left fits on the cards.
-
-front_most : (c : Card) → length (front c) ≤ min c.count 127
-front_most c = simp length-take (omega arith)
-
-pub all_fits : (at : ℕ) (cs : List Card) → length (dealt at cs) + room_in (drop at cs) ≤ 127 * length cs
-all_fits zero [] = omega arith
-all_fits (suc at) [] = omega arith
-all_fits zero (c ∷ cs) = omega (arith, front_most c, ap length (append-nil (front c)))
-all_fits (suc at) (c ∷ cs) = omega (arith, front_most c, length-append (front c) (dealt at cs), all_fits at cs)
+pub whole_add : (at : ℕ) (cs : List Card) (c' : Card) (b : ℕ) → at < length cs → (get_or cs at none).count < 127 → c'.count ≡ (get_or cs at none).count + 1 → front c' ≡ front (get_or cs at none) ++ b ∷ [] → length (dealt at cs) + room_in (drop at cs) ≡ 127 * length cs → length (dealt at (set cs at c')) + room_in (drop at (set cs at c')) ≡ 127 * length (set cs at c')
+whole_add at cs c' b h l e f w = omega (arith, room_add at cs c' h l e, ap length (dealt_add at cs c' b h f), length-append (dealt at cs) (b ∷ []), length-set cs at c')
 
 -- The order of the pile.
 
@@ -113,15 +109,75 @@ filled_add at [] c' h l n e f = absurd (omega arith)
 filled_add zero (c ∷ cs) c' h l n e f = (omega arith, rest_add c c' l n e f.1, f.2)
 filled_add (suc at) (c ∷ cs) c' h l n e f = (f.0, filled_add at cs c' (omega arith) l n e f.1)
 
-filled_next : (at : ℕ) (cs : List Card) (c' : Card) → suc at < length cs → 127 ≤ (get_or cs at none).count → c'.count ≡ 1 → drop 1 c'.«data» ≡ drop 1 (get_or cs (suc at) none).«data» → Filled at cs → Filled (suc at) (set cs (suc at) c')
-filled_next at [] c' h l n e f = absurd (omega arith)
-filled_next zero (c ∷ []) c' h l n e f = absurd (omega arith)
-filled_next zero (c ∷ d ∷ cs) c' h l n e f =
+-- On to the next card, which holds nothing yet.
+
+next_blank : (at : ℕ) (cs : List Card) → suc at < length cs → Filled at cs → (other : Card) → get_or cs (suc at) other ≡ blank
+next_blank at [] h f other = absurd (omega arith)
+next_blank zero (c ∷ []) h f other = absurd (omega arith)
+next_blank zero (c ∷ d ∷ cs) h f other = cc f.2
+next_blank (suc at) (c ∷ cs) h f other = next_blank at cs (omega arith) f.1 other
+
+filled_next : (at : ℕ) (cs : List Card) → suc at < length cs → (get_or cs at none).count ≡ 127 → Filled at cs → Filled (suc at) cs
+filled_next at [] h e f = absurd (omega arith)
+filled_next zero (c ∷ []) h e f = absurd (omega arith)
+filled_next zero (c ∷ d ∷ cs) h e f =
     let fresh : d ≡ blank = cc f.2 in
     let rest : cs ≡ replicate (length cs) blank = cc f.2 in
-    let zero_data : drop 1 d.«data» ≡ zeros 126 = ap (λ k. drop 1 k.«data») fresh in
-    (omega (arith, f.0), (omega arith, ap (λ k. drop k c'.«data») n ∙ e ∙ zero_data ∙ ap (λ k. zeros (127 - k)) (sym n), rest))
-filled_next (suc at) (c ∷ cs) c' h l n e f = (f.0, filled_next at cs c' (omega arith) l n e f.1)
+    (e, (omega (arith, ap (λ x. x.count) fresh), ap (λ x. drop x.count x.«data») fresh ∙ sym (ap (λ x. zeros (127 - x.count)) fresh), rest))
+filled_next (suc at) (c ∷ cs) h e f = (f.0, filled_next at cs (omega arith) e f.1)
 
-pub filled_begin : (at : ℕ) (cs : List Card) (c' : Card) → at + 1 < length cs → 127 ≤ (get_or cs at none).count → c'.count ≡ 1 → drop 1 c'.«data» ≡ drop 1 (get_or cs (at + 1) none).«data» → Filled at cs → Filled (at + 1) (set cs (at + 1) c')
-filled_begin at cs c' h l n e f = rw (add-one at) (filled_next at cs c' (omega arith) l n (rw (add-one at) at e) f)
+pub filled_advance : (at : ℕ) (cs : List Card) → at + 1 < length cs → (get_or cs at none).count ≡ 127 → Filled at cs → Filled (at + 1) cs
+filled_advance at cs h e f = rw (add-one at) (filled_next at cs (omega arith) e f)
+
+dealt_next : (at : ℕ) (cs : List Card) → suc at < length cs → front (get_or cs (suc at) none) ≡ [] → dealt (suc at) cs ≡ dealt at cs
+dealt_next at [] h f = absurd (omega arith)
+dealt_next zero (c ∷ []) h f = absurd (omega arith)
+dealt_next zero (c ∷ d ∷ cs) h f = ap (λ l. front c ++ (l ++ [])) f
+dealt_next (suc at) (c ∷ cs) h f = ap (λ l. front c ++ l) (dealt_next at cs (omega arith) f)
+
+pub dealt_advance : (at : ℕ) (cs : List Card) → at + 1 < length cs → Filled at cs → dealt (at + 1) cs ≡ dealt at cs
+dealt_advance at cs h f =
+    let l : suc at < length cs = omega arith in
+    rw (add-one at) (dealt_next at cs l (ap front (next_blank at cs l f none)))
+
+room_next : (at : ℕ) (cs : List Card) → suc at < length cs → (get_or cs at none).count ≡ 127 → Filled at cs → room_in (drop (suc at) cs) ≡ room_in (drop at cs)
+room_next at cs h e f = omega (arith, room_is at cs (omega arith), room_is (suc at) cs h, ap (λ c. c.count) (next_blank at cs h f none))
+
+pub room_advance : (at : ℕ) (cs : List Card) → at + 1 < length cs → (get_or cs at none).count ≡ 127 → Filled at cs → room_in (drop (at + 1) cs) ≡ room_in (drop at cs)
+room_advance at cs h e f = rw (add-one at) (room_next at cs (omega arith) e f)
+
+-- Where space is left, the card that was gone on to has a place, and so has one that is not full or has none after it.
+
+pub place_advance : (at : ℕ) (cs : List Card) → at + 1 < length cs → Filled at cs → HasPlace (at + 1) cs
+place_advance at cs h f =
+    let l : suc at < length cs = omega arith in
+    rw (add-one at) (l, λ other. omega (arith, ap (λ c. c.count) (next_blank at cs l f other)))
+
+pub place_here : (at : ℕ) (cs : List Card) → 0 < room_in (drop at cs) → (get_or cs at none).count < 127 → HasPlace at cs
+place_here zero [] h l = absurd (omega arith)
+place_here (suc at) [] h l = absurd (omega arith)
+place_here zero (c ∷ cs) h l = (omega arith, λ other. l)
+place_here (suc at) (c ∷ cs) h l =
+    let there = place_here at cs h l in
+    (omega (arith, there.0), there.1)
+
+pub place_last : (at : ℕ) (cs : List Card) → 0 < room_in (drop at cs) → length cs ≤ at + 1 → HasPlace at cs
+place_last zero [] h l = absurd (omega arith)
+place_last (suc at) [] h l = absurd (omega arith)
+place_last zero (c ∷ cs) h l = (omega arith, λ other. omega arith)
+place_last (suc at) (c ∷ cs) h l =
+    let there = place_last at cs h (omega arith) in
+    (omega (arith, there.0), there.1)
+
+-- A pile of blank cards.
+
+pub filled_blank : (n : ℕ) → Filled 0 (replicate n blank)
+filled_blank zero = tt
+filled_blank (suc n) = (omega arith, refl, ap (λ k. replicate k blank) (sym (length-replicate n blank)))
+
+pub whole_blank : (n : ℕ) → length (dealt 0 (replicate n blank)) + room_in (replicate n blank) ≡ 127 * n
+whole_blank zero = refl
+whole_blank (suc n) = omega (arith, length-replicate n blank)
+
+-- What the proofs of the card sink cite.
+pub ruleset pile = (common_steps, filled_within, filled_count, begun_count, copied_card, copied_length, room_is, dealt_add, room_add, dealt_advance, room_advance, filled_advance, place_advance, place_here, place_last, filled_blank, whole_blank)

@@ -1,4 +1,5 @@
 pub mod Puts
 pub mod Buffer
+pub mod Cards
 pub mod Pile
 pub mod Faults

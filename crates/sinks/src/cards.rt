@@ -1,8 +1,6 @@
 // A sink that fills a pile of cards, one after the other.
-ghost use Rattle.std.specs.Prelude.{◌≡◌, ℕ, suc, ◌+◌, ◌*◌, ◌<◌, ◌≤◌, [], ◌∷◌, ◌++◌, length, take, drop, replicate};
-ghost use Rattle.sinks.specs.Pile.{front, loaded, room, blank, Tidy, Unloaded};
-ghost use Rattle.sinks.specs.Puts.{Put};
-ghost use Rattle.std.specs.List.{flat_map};
+ghost use Rattle.std.specs.Prelude.{◌≡◌, ℕ, ◌+◌, ◌*◌, ◌<◌, ◌≤◌, [], ◌∷◌, ◌++◌, length, take, drop, replicate, suc};
+ghost use Rattle.sinks.specs.Cards.{front, dealt, room_in, blank, Filled, Filled-prop, HasPlace};
 
 use crate::faults::SinkFault;
 use crate::interface::{Full, Sink};
@@ -10,7 +8,8 @@ use crate::interface::{Full, Sink};
 // How many bytes of data a card has.
 pub const CARD_SIZE: usize = 127;
 
-// A card is 128 bytes: how many bytes it holds, 0 to 127, and then its data.
+// A card is 128 bytes: how many bytes it holds, 0 to 127, and then its data. The format fixes these bytes, so the count
+// stands before an array, and this is no vector.
 #[repr(C)]
 #[derive(Clone, Copy)]
 pub struct Card {
@@ -19,13 +18,19 @@ pub struct Card {
 }
 
 impl Card {
+    // A card that holds nothing.
+    pub const BLANK: Card = Card {
+        count: 0,
+        data: [0; CARD_SIZE],
+    };
+
     // The bytes that the card holds.
     fn bytes(&self) -> &[u8]
+        requires { self.now.count ≤ 127 }
         ensures value { result.now ≡ front self.now }
-        ensures len { length result.now ≤ 127 }
+        ensures len { length result.now ≡ self.now.count }
     {
-        let count = usize::from(self.count).min(CARD_SIZE);
-        &self.data[0..count]
+        &self.data[..usize::from(self.count)]
     }
 
     // One more byte, where there is a place left.
@@ -38,16 +43,6 @@ impl Card {
         self.data[usize::from(self.count)] = byte;
         self.count += 1;
     }
-
-    // The first byte, whatever the card counted before.
-    fn begin(&mut self, byte: u8)
-        ensures count { self.new.count ≡ 1 }
-        ensures bytes { front self.new ≡ byte ∷ [] }
-        ensures beyond { drop 1 self.new.«data» ≡ drop 1 self.old.«data» }
-    {
-        self.data[0] = byte;
-        self.count = 1;
-    }
 }
 
 // The least number of cards that hold that many bytes.
@@ -58,49 +53,28 @@ pub fn cards_for(bytes: usize) -> usize
     bytes.div_ceil(CARD_SIZE)
 }
 
-// Writes each card anew, so that nothing that it held is left.
-fn clear(cards: &mut [Card])
-    ensures { cards.new ≡ replicate (length cards.old) blank }
-{
-    for card in cards.iter_mut() {
-        *card = Card {
-            count: 0,
-            data: [0; CARD_SIZE],
-        };
-    }
-}
-
-// Copies what the cards hold to the start of `out`.
-fn copy_bytes(cards: &[Card], out: &mut [u8])
-    requires { length (flat_map front cards.now) ≤ length out.old }
-    ensures { out.new ≡ flat_map front cards.now ++ drop (length (flat_map front cards.now)) out.old }
-{
-    let mut at = 0;
-    for card in cards {
-        let bytes = card.bytes();
-        let end = at + bytes.len();
-        out[at..end].copy_from_slice(bytes);
-        at = end;
-    }
-}
-
-// `at` is the card that is being filled. Those after it hold nothing, whatever they count.
+// `at` is the card that is being filled: those before it are full, and those after it blank. What is held and what is
+// left are together the whole pile. Nothing is allocated, so the cards are a slice that is lent, with an index beside it.
 #[derive(Drop)]
 pub struct CardSink<'a> {
     cards: &'a mut [Card],
     at: usize,
+    pub ghost filled: { Filled at cards.now } by { Filled-prop at cards.now },
+    ghost whole: { length (dealt at cards.now) + room_in (drop at cards.now) ≡ 127 * length cards.now },
 }
 
+#[tactic(auto, using(crate::proofs::Piles::pile))]
 impl<'a> CardSink<'a> {
+    ghost use Rattle.sinks.specs.Pile.{loaded, room, Unloaded};
+
     // Clears the cards, whatever they held.
     pub fn new(cards: &'a mut [Card]) -> Self
         ensures same { result.cards.ghost_name ≡ cards.entry.ghost_name }
         ensures cards { result.cards.now ≡ replicate (length cards.old) blank }
         ensures held { loaded result ≡ [] }
         ensures space { room result ≡ 127 * length cards.old }
-        ensures tidy { Tidy result }
     {
-        clear(cards);
+        cards.fill(Card::BLANK);
         CardSink { cards, at: 0 }
     }
 
@@ -114,7 +88,12 @@ impl<'a> CardSink<'a> {
         if out.len() < count {
             return Err(SinkFault::ShortBuffer);
         }
-        copy_bytes(self.begun(), out);
+        // Not `out.chunks_mut(CARD_SIZE)`: of what is written through it, a proof knows how long it is and no more.
+        for (place, card) in self.begun().iter().enumerate() {
+            let start = CARD_SIZE * place;
+            let bytes = card.bytes();
+            out[start..start + bytes.len()].copy_from_slice(bytes);
+        }
         Ok(count)
     }
 
@@ -122,15 +101,28 @@ impl<'a> CardSink<'a> {
     fn begun(&self) -> &[Card]
         ensures { result.now ≡ take (suc self.now.at) self.now.cards.now }
     {
-        if self.at < self.cards.len() {
-            &self.cards[0..self.at + 1]
-        } else {
-            self.cards
+        self.cards.get(..=self.at).unwrap_or(self.cards)
+    }
+
+    // Goes on to the next card, where another follows and the one that is being filled is full.
+    fn advance(&mut self)
+        ensures same { self.new.cards.ghost_name ≡ self.old.cards.ghost_name }
+        ensures cards { self.new.cards.now ≡ self.old.cards.now }
+        ensures held { loaded self.new ≡ loaded self.old }
+        ensures space { room self.new ≡ room self.old }
+        ensures place { 0 < room self.new → HasPlace self.new.at self.new.cards.now }
+    {
+        if self.at + 1 < self.cards.len() && usize::from(self.cards[self.at].count) == CARD_SIZE {
+            self.at += 1;
         }
     }
 }
 
+#[tactic(auto, using(crate::proofs::Piles::pile))]
 impl<'a> Sink for CardSink<'a> {
+    ghost use Rattle.sinks.specs.Pile.{loaded, room};
+    ghost use Rattle.sinks.specs.Puts.{Put};
+
     ghost held = { loaded };
 
     ghost space = { room };
@@ -142,38 +134,25 @@ impl<'a> Sink for CardSink<'a> {
         ensures same { self.new.cards.ghost_name ≡ self.old.cards.ghost_name }
         ensures cases { Put (loaded self.old) (room self.old) byte result (loaded self.new) (room self.new) }
         ensures len { length self.new.cards.now ≡ length self.old.cards.now }
-        ensures tidy { Tidy self.old → Tidy self.new }
     {
-        if self.at >= self.cards.len() {
+        self.advance();
+        if self.space() == 0 {
             return Err(Full);
         }
-        let count = usize::from(self.cards[self.at].count);
-        if count < CARD_SIZE {
-            self.cards[self.at].add(byte);
-            return Ok(());
-        }
-        if self.at + 1 >= self.cards.len() {
-            return Err(Full);
-        }
-        self.at += 1;
-        self.cards[self.at].begin(byte);
+        // The proof follows the loan of a card out of a slice in a variable, and not out of one in a field.
+        let cards = &mut *self.cards;
+        cards[self.at].add(byte);
         Ok(())
     }
 
     fn count(&self) -> usize {
-        let mut count = 0;
-        for card in self.begun() {
-            count += card.bytes().len();
-        }
-        count
+        CARD_SIZE * self.cards.len() - self.space()
     }
 
     fn space(&self) -> usize {
-        if self.at >= self.cards.len() {
-            return 0;
+        match &self.cards[self.at..] {
+            [] => 0,
+            [card, rest @ ..] => CARD_SIZE - usize::from(card.count) + CARD_SIZE * rest.len(),
         }
-        let count = usize::from(self.cards[self.at].count);
-        let after = self.cards.len() - self.at - 1;
-        CARD_SIZE.saturating_sub(count) + CARD_SIZE * after
     }
 }

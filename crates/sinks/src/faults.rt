@@ -1,8 +1,7 @@
 // What a sink refuses, besides a put that found no space.
-ghost use Rattle.std.specs.Prelude.{◌≡◌};
 ghost use Rattle.sinks.specs.Faults.{number_of, place_of, layer_of};
 
-use layers::Layer;
+use layers::{Fault, Layer};
 
 #[derive(Clone, Copy, PartialEq, Eq, Debug)]
 pub enum SinkFault {
@@ -10,29 +9,29 @@ pub enum SinkFault {
     ShortBuffer,
 }
 
-impl SinkFault {
+impl Fault for SinkFault {
+    ghost number = { number_of };
+
+    ghost place = { place_of };
+
+    ghost layer = { layer_of };
+
     // The refusal's number.
-    pub fn number(&self) -> u8
-        ensures { result ≡ number_of self.now }
-    {
+    fn number(&self) -> u8 {
         match self {
             SinkFault::ShortBuffer => 26,
         }
     }
 
     // The place in the input. A buffer that is too short has none.
-    pub fn place(&self) -> usize
-        ensures { result ≡ place_of self.now }
-    {
+    fn place(&self) -> usize {
         match self {
             SinkFault::ShortBuffer => 0,
         }
     }
 
     // The layer that refuses.
-    pub fn layer(&self) -> Layer
-        ensures { result ≡ layer_of self.now }
-    {
+    fn layer(&self) -> Layer {
         match self {
             SinkFault::ShortBuffer => Layer::Sink,
         }

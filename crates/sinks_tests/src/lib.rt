@@ -3,7 +3,7 @@
 
 #[cfg(test)]
 mod tests {
-    use layers::Layer;
+    use layers::{Fault, Layer, Refusal};
     use sinks::{BufferSink, CARD_SIZE, Card, CardSink, Full, Sink, SinkFault, cards_for, put_all};
     use std::process::Abort;
     use std::test::Fail;
@@ -45,53 +45,53 @@ mod tests {
             put_many(&mut sink, bytes)?;
             assert_eq!(rt; sink.count(), bytes);
             assert_eq!(rt; sink.space(), space);
-            assert_eq!(rt; [pile[0].count, pile[1].count, pile[2].count], counts);
+            assert_eq!(rt; pile.map(|card| card.count), counts);
         }
         Ok(())
     }
 
-    // Puts `len` bytes whole, and checks that all of them or none went in.
-    fn put_whole<S: Sink>(rt: &impl Abort, sink: &mut S, len: usize, fits: bool) {
+    // Puts `len` bytes whole, and checks the answer, and that all of them or none went in.
+    fn put_whole<S: Sink>(rt: &impl Abort, sink: &mut S, len: usize, answer: Result<(), Full>) {
         let bytes = [5; 200];
         assert!(rt; len <= 200);
         let held = sink.count();
         let space = sink.space();
-        assert_eq!(rt; put_all(sink, &bytes[0..len]).is_ok(), fits);
-        let more = if fits { len } else { 0 };
+        assert_eq!(rt; put_all(sink, &bytes[..len]), answer);
+        let more = if answer.is_ok() { len } else { 0 };
         assert_eq!(rt; sink.count(), held + more);
         assert_eq!(rt; sink.space() + more, space);
     }
 
-    // The space, how many bytes are put whole, and whether they fit.
-    const WHOLE: [(usize, usize, bool); 8] = [
-        (0, 0, true),
-        (0, 1, false),
-        (1, 0, true),
-        (1, 1, true),
-        (1, 2, false),
-        (127, 126, true),
-        (127, 127, true),
-        (127, 128, false),
+    // The space, how many bytes are put whole, and the answer.
+    const WHOLE: [(usize, usize, Result<(), Full>); 8] = [
+        (0, 0, Ok(())),
+        (0, 1, Err(Full)),
+        (1, 0, Ok(())),
+        (1, 1, Ok(())),
+        (1, 2, Err(Full)),
+        (127, 126, Ok(())),
+        (127, 127, Ok(())),
+        (127, 128, Err(Full)),
     ];
 
     #[test]
     fn a_buffer_takes_all_or_nothing(rt: HostRuntime) {
-        for (space, len, fits) in WHOLE {
+        for (space, len, answer) in WHOLE {
             let mut buffer = [9; 200];
             assert!(rt; space <= 200);
-            let mut sink = BufferSink::new(&mut buffer[0..space]);
-            put_whole(&rt, &mut sink, len, fits);
+            let mut sink = BufferSink::new(&mut buffer[..space]);
+            put_whole(&rt, &mut sink, len, answer);
         }
     }
 
     #[test]
     fn cards_take_all_or_nothing(rt: HostRuntime) -> Result<(), Fail> {
-        for (space, len, fits) in WHOLE {
+        for (space, len, answer) in WHOLE {
             let mut pile = [USED; 2];
             assert!(rt; space <= 254);
             let mut sink = CardSink::new(&mut pile);
             put_many(&mut sink, 254 - space)?;
-            put_whole(&rt, &mut sink, len, fits);
+            put_whole(&rt, &mut sink, len, answer);
         }
         Ok(())
     }
@@ -106,18 +106,18 @@ mod tests {
 
     #[test]
     fn a_buffer_is_filled_from_its_start(rt: HostRuntime) -> Result<(), Fail> {
-        // How many bytes are put, whether one more fits, and the buffer with it.
+        // How many bytes are put, the answer to one more, and the buffer with it.
         let rows = [
-            (0, true, [4, 9, 9]),
-            (1, true, [0, 4, 9]),
-            (2, true, [0, 1, 4]),
-            (3, false, [0, 1, 2]),
+            (0, Ok(()), [4, 9, 9]),
+            (1, Ok(()), [0, 4, 9]),
+            (2, Ok(()), [0, 1, 4]),
+            (3, Err(Full), [0, 1, 2]),
         ];
-        for (bytes, fits, after) in rows {
+        for (bytes, answer, after) in rows {
             let mut buffer = [9; 3];
             let mut sink = BufferSink::new(&mut buffer);
             put_many(&mut sink, bytes)?;
-            assert_eq!(rt; sink.put(4).is_ok(), fits);
+            assert_eq!(rt; sink.put(4), answer);
             assert_eq!(rt; buffer, after);
         }
         Ok(())
@@ -148,8 +148,8 @@ mod tests {
             put_many(&mut sink, 128)?;
             let mut out = [9; 130];
             assert!(rt; size <= 130);
-            assert_eq!(rt; sink.unload(&mut out[0..size]), answer);
-            assert_eq!(rt; [out[126], out[127], out[128], out[129]], after);
+            assert_eq!(rt; sink.unload(&mut out[..size]), answer);
+            assert!(rt; &out[126..] == after.as_slice());
         }
         Ok(())
     }
@@ -162,7 +162,7 @@ mod tests {
         let mut out = [9; 3];
         assert_eq!(rt; sink.unload(&mut out), Ok(3));
         assert_eq!(rt; out, [0, 1, 2]);
-        assert_eq!(rt; sink.unload(&mut out[0..2]), Err(SinkFault::ShortBuffer));
+        assert_eq!(rt; sink.unload(&mut out[..2]), Err(SinkFault::ShortBuffer));
         assert_eq!(rt; out, [0, 0, 2]);
         Ok(())
     }
@@ -178,8 +178,11 @@ mod tests {
     #[test]
     fn the_fault_is_numbered(rt: HostRuntime) {
         let fault = SinkFault::ShortBuffer;
-        assert_eq!(rt; fault.number(), 26);
-        assert_eq!(rt; fault.place(), 0);
-        assert_eq!(rt; fault.layer(), Layer::Sink);
+        let told = Refusal {
+            number: 26,
+            place: 0,
+            layer: Layer::Sink,
+        };
+        assert_eq!(rt; fault.refusal(), told);
     }
 }

@@ -71,14 +71,14 @@ module _ (decoded : ℕ → Option ℕ) where
 -- No entry of a list of meanings is \htmlrtf.
 abbrev no_htmlrtf : List (List ℕ × Word) → Bool
 no_htmlrtf [] = true
-no_htmlrtf (w ∷ ws) = cond (is_htmlrtf w.1) false (no_htmlrtf ws)
+no_htmlrtf (w ∷ ws) = cond (is_htmlrtf (Some w.1)) false (no_htmlrtf ws)
 
 meaning_other : (name : List ℕ) (ws : List (List ℕ × Word)) → no_htmlrtf ws ≡ true → is_htmlrtf (meaning name ws) ≡ false
 meaning_other name [] = λ e. refl
 meaning_other name (w ∷ ws) =
-    cond_both (is_htmlrtf w.1) false (no_htmlrtf ws) (λ b. b ≡ true → is_htmlrtf (meaning name (w ∷ ws)) ≡ false)
+    cond_both (is_htmlrtf (Some w.1)) false (no_htmlrtf ws) (λ b. b ≡ true → is_htmlrtf (meaning name (w ∷ ws)) ≡ false)
     (λ _ e. never (cc))
-    (λ q e. cond_both (bytes_eq name w.0) w.1 (meaning name ws) (λ x. is_htmlrtf x ≡ false) (λ _. q) (λ _. meaning_other name ws e))
+    (λ q e. cond_both (bytes_eq name w.0) (Some w.1) (meaning name ws) (λ x. is_htmlrtf x ≡ false) (λ _. q) (λ _. meaning_other name ws e))
 
 -- A word that is no marker is not \htmlrtf.
 unmarked : (name : List ℕ) → among name markers ≡ false → is_htmlrtf (word_of name) ≡ false

@@ -105,7 +105,7 @@ head_lexed page h Text =
 
 -- In a record no token of its header adds anything.
 module _ (decoded : ℕ → Option ℕ) where
-  nothing : (k : Kind) (name : List ℕ) (v : Option ℤ) (n : ℕ) → word_of name ≡ w.Other → Says decoded k outermost [] ((word name v, n) ∷ []) []
+  nothing : (k : Kind) (name : List ℕ) (v : Option ℤ) (n : ℕ) → word_of name ≡ None → Says decoded k outermost [] ((word name v, n) ∷ []) []
   nothing k name v n e = says_other decoded k [] outermost plain_outermost n name v e
 
   both : (k : Kind) (ts us : List (Tok × ℕ)) → Says decoded k outermost [] ts [] → Says decoded k outermost [] us [] → Says decoded k outermost [] (ts ++ us) []

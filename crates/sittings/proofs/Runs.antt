@@ -6,6 +6,7 @@ use Rattle.std.specs.Option.{option_map}
 use Rattle.std.specs.Str.{chars as decodes}
 use Rattle.std.proofs.ByRecursion.{All-push}
 use Rattle.std.proofs.lemmas.Bool.{cond_both, ltb-false}
+use Rattle.std.proofs.lemmas.Grind.{flat_map-append}
 use Rattle.std.proofs.lemmas.Str.{encodes-append, encodes-chars, scalars-chars}
 use Rattle.records.specs.declared.kinds.Kind.{Kind}
 use Rattle.records.specs.declared.kinds.Kind.TheVariants.{Html, Text}
@@ -14,14 +15,12 @@ use Rattle.records.proofs.Alone.{never}
 use Rattle.reader.specs.Reading.{read_of}
 use Rattle.writer.specs.declared.faults.WriterFault.{WriterFault}
 use Rattle.writer.specs.declared.faults.WriterFault.TheVariants.{NoSpace, TooLong}
-use Rattle.writer.specs.declared.state.State.{State}
-use Rattle.writer.specs.declared.state.State.TheVariants.{NoneOpen, HtmlOpen, TextOpen}
 use Rattle.writer.specs.declared.state.CallKind.TheVariants as call
 use Rattle.writer.specs.Header.{header, tagged, dressed}
 use Rattle.writer.specs.Spelling.{spelled_all}
 use Rattle.writer.specs.Pieces.{is_utf8, typed}
 use Rattle.writer.specs.Decoration.{decoration}
-use Rattle.writer.specs.States.{allowed, open_as}
+use Rattle.writer.specs.States.{allowed}
 use Rattle.writer.specs.Calls.{Ask, begin, markup, text, dress, finish, Moment, and_then, call_of, to_put, room, fits, answer, after}
 use Rattle.writer.proofs.Sound.{passes_utf8}
 use Rattle.sittings.specs.Sittings.{Script, Sitting, grown, pieced, ended, accepted, next_by, next, goes, start, sitting}
@@ -36,7 +35,7 @@ then_ok : {A B : Type 0} (r : Result A WriterFault) (f : A → Result B WriterFa
 then_ok (Ok x) f y e = (x, refl, e)
 then_ok (Err g) f y e = never (cc)
 
-same_ok : {x y : List ℕ} → ◌≡◌ {A = Result (List ℕ) WriterFault} (Ok x) (Ok y) → x ≡ y
+pub same_ok : {A E : Type 0} {x y : A} → ◌≡◌ {A = Result A E} (Ok x) (Ok y) → x ≡ y
 same_ok e = cc
 
 -- An accepted call passed the state, the piece and the room.
@@ -95,20 +94,15 @@ module _ (page : ℕ) (decoded : ℕ → Option ℕ) where
   OpenAs k size space (Some r) = (r.kind ≡ k) × Begun r × (size ≡ length r.bytes) × (1 ≤ space)
 
   -- The state says what is open.
-  abbrev pub Current : State → ℕ → ℕ → Option Script → Type 0
-  Current NoneOpen size space o = o ≡ None
-  Current HtmlOpen size space o = OpenAs Html size space o
-  Current TextOpen size space o = OpenAs Text size space o
+  abbrev pub Current : Option Kind → ℕ → ℕ → Option Script → Type 0
+  Current None size space o = o ≡ None
+  Current (Some k) size space o = OpenAs k size space o
 
   -- The sink holds the finished records and the open one, and each is as it should be.
   pub record Sound (s : Sitting) : Type 0 where
     pub held : s.moment.held ≡ flat_map (λ r. r.bytes) s.finished ++ bytes_of s.current
     pub finished : AllByRecursion Done s.finished
     pub current : Current s.moment.state s.moment.size s.moment.space s.current
-
-pub joined_append : (rs ss : List Script) → flat_map (λ r. r.bytes) (rs ++ ss) ≡ flat_map (λ r. r.bytes) rs ++ flat_map (λ r. r.bytes) ss
-joined_append [] ss = refl
-joined_append (r ∷ rs) ss = ap (λ l. r.bytes ++ l) (joined_append rs ss) ∙ sym (append_assoc r.bytes _ _)
 
 -- Records, in a lawful code page.
 module _ (page : ℕ) (decoded encoded : ℕ → Option ℕ) (lawful : Lawful page decoded encoded) where
@@ -165,35 +159,34 @@ module _ (page : ℕ) (decoded encoded : ℕ → Option ℕ) (lawful : Lawful pa
   held_more held bs rs (Some r) f e g k size space is = ap (λ l. l ++ bs) e ∙ append_assoc (flat_map (λ r. r.bytes) rs) r.bytes bs ∙ ap (λ l. flat_map (λ r. r.bytes) rs ++ l) (sym (g r))
 
   -- What is open where the state takes a call.
-  none_open : (st : State) (size space : ℕ) (o : Option Script) → allowed st call.Open ≡ Ok tt → Current page decoded st size space o → o ≡ None
-  none_open NoneOpen size space o e is = is
-  none_open HtmlOpen size space o e is = never (cc)
-  none_open TextOpen size space o e is = never (cc)
+  none_open : (st : Option Kind) (size space : ℕ) (o : Option Script) → allowed st call.Open ≡ Ok tt → Current page decoded st size space o → o ≡ None
+  none_open None size space o e is = is
+  none_open (Some Html) size space o e is = never (cc)
+  none_open (Some Text) size space o e is = never (cc)
 
-  text_open : (st : State) (size space : ℕ) (o : Option Script) → allowed st call.Text ≡ Ok tt → Current page decoded st size space o → (k : Kind) × (open_as k ≡ st) × OpenAs page decoded k size space o
-  text_open NoneOpen size space o e is = never (cc)
-  text_open HtmlOpen size space o e is = (Html, refl, is)
-  text_open TextOpen size space o e is = (Text, refl, is)
+  text_open : (st : Option Kind) (size space : ℕ) (o : Option Script) → allowed st call.Text ≡ Ok tt → Current page decoded st size space o → (k : Kind) × (Some k ≡ st) × OpenAs page decoded k size space o
+  text_open None size space o e is = never (cc)
+  text_open (Some Html) size space o e is = (Html, refl, is)
+  text_open (Some Text) size space o e is = (Text, refl, is)
 
-  markup_open : (st : State) (size space : ℕ) (o : Option Script) → allowed st call.Markup ≡ Ok tt → Current page decoded st size space o → (open_as Html ≡ st) × OpenAs page decoded Html size space o
-  markup_open NoneOpen size space o e is = never (cc)
-  markup_open HtmlOpen size space o e is = (refl, is)
-  markup_open TextOpen size space o e is = never (cc)
+  markup_open : (st : Option Kind) (size space : ℕ) (o : Option Script) → allowed st call.Markup ≡ Ok tt → Current page decoded st size space o → (Some Html ≡ st) × OpenAs page decoded Html size space o
+  markup_open None size space o e is = never (cc)
+  markup_open (Some Html) size space o e is = (refl, is)
+  markup_open (Some Text) size space o e is = never (cc)
 
-  dress_open : (st : State) (size space : ℕ) (o : Option Script) → allowed st call.Dress ≡ Ok tt → Current page decoded st size space o → (open_as Html ≡ st) × OpenAs page decoded Html size space o
-  dress_open NoneOpen size space o e is = never (cc)
-  dress_open HtmlOpen size space o e is = (refl, is)
-  dress_open TextOpen size space o e is = never (cc)
+  dress_open : (st : Option Kind) (size space : ℕ) (o : Option Script) → allowed st call.Dress ≡ Ok tt → Current page decoded st size space o → (Some Html ≡ st) × OpenAs page decoded Html size space o
+  dress_open None size space o e is = never (cc)
+  dress_open (Some Html) size space o e is = (refl, is)
+  dress_open (Some Text) size space o e is = never (cc)
 
-  finish_open : (st : State) (size space : ℕ) (o : Option Script) → allowed st call.Finish ≡ Ok tt → Current page decoded st size space o → (k : Kind) × OpenAs page decoded k size space o
-  finish_open NoneOpen size space o e is = never (cc)
-  finish_open HtmlOpen size space o e is = (Html, is)
-  finish_open TextOpen size space o e is = (Text, is)
+  finish_open : (st : Option Kind) (size space : ℕ) (o : Option Script) → allowed st call.Finish ≡ Ok tt → Current page decoded st size space o → (k : Kind) × OpenAs page decoded k size space o
+  finish_open None size space o e is = never (cc)
+  finish_open (Some Html) size space o e is = (Html, is)
+  finish_open (Some Text) size space o e is = (Text, is)
 
   -- A record of a kind is open in the state of that kind.
-  current_as : (k : Kind) (st : State) (size space : ℕ) (o : Option Script) → open_as k ≡ st → OpenAs page decoded k size space o → Current page decoded st size space o
-  current_as Html st size space o e is = subst (λ x. Current page decoded x size space o) e is
-  current_as Text st size space o e is = subst (λ x. Current page decoded x size space o) e is
+  current_as : (k : Kind) (st : Option Kind) (size space : ℕ) (o : Option Script) → Some k ≡ st → OpenAs page decoded k size space o → Current page decoded st size space o
+  current_as k st size space o e is = subst (λ x. Current page decoded x size space o) e is
 
   module _ (s : Sitting) (w : Sound page decoded s) where
     -- Each accepted call keeps it.
@@ -206,7 +199,7 @@ module _ (page : ℕ) (decoded encoded : ℕ → Option ℕ) (lawful : Lawful pa
         record {
           held = ap (λ l. l ++ bs) (w.held ∙ ap (λ o. flat_map (λ r. r.bytes) s.finished ++ bytes_of o) none ∙ append-nil (flat_map (λ r. r.bytes) s.finished));
           finished = w.finished;
-          current = current_as k (open_as k) (length bs) (s.moment.space - length bs) (Some r) refl (refl, b, refl, omega (arith, parts.1));
+          current = (refl, b, refl, omega (arith, parts.1));
         }
 
     keeps_text : (piece bs cs : List ℕ) → allowed s.moment.state call.Text ≡ Ok tt → typed piece ≡ Ok cs → spelled_all encoded cs ≡ bs → room s.moment.size s.moment.space (length bs) ≡ Ok tt → Sound page decoded (accepted s (text piece) bs)
@@ -250,7 +243,7 @@ module _ (page : ℕ) (decoded encoded : ℕ → Option ℕ) (lawful : Lawful pa
         by : (o : Option Script) → s.moment.held ≡ flat_map (λ r. r.bytes) s.finished ++ bytes_of o → (k : Kind) → OpenAs page decoded k s.moment.size s.moment.space o → Sound page decoded (record { moment = after s.moment finish bs; finished = ended s.finished (option_map (grown bs) o); current = None })
         by None held k open_is = absurd open_is
         by (Some r) held k open_is = record {
-          held = ap (λ l. l ++ bs) held ∙ append_assoc (flat_map (λ r. r.bytes) s.finished) r.bytes bs ∙ ap (λ l. flat_map (λ r. r.bytes) s.finished ++ l) (sym (append-nil (r.bytes ++ bs))) ∙ sym (joined_append s.finished (grown bs r ∷ [])) ∙ sym (append-nil (flat_map (λ r. r.bytes) (s.finished ++ grown bs r ∷ [])));
+          held = ap (λ l. l ++ bs) held ∙ append_assoc (flat_map (λ r. r.bytes) s.finished) r.bytes bs ∙ ap (λ l. flat_map (λ r. r.bytes) s.finished ++ l) (sym (append-nil (r.bytes ++ bs))) ∙ sym (flat_map-append (λ r. r.bytes) s.finished (grown bs r ∷ [])) ∙ sym (append-nil (flat_map (λ r. r.bytes) (s.finished ++ grown bs r ∷ [])));
           finished = All-push (Done page decoded) s.finished (grown bs r) w.finished (subst (λ x. Done page decoded (grown x r)) is (begun_closes r open_is.1));
           current = refl;
         }

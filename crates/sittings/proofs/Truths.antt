@@ -4,7 +4,7 @@ use Rattle.std.specs.List.{flat_map, AllByRecursion}
 use Rattle.std.specs.Option.{option_map}
 use Rattle.std.proofs.ByRecursion.{All-push, All-weaker, All-map}
 use Rattle.std.proofs.lemmas.Bool.{cond-false, le-ltb}
-use Rattle.records.specs.declared.faults.RecordFault.{RecordFault}
+use Rattle.std.proofs.lemmas.Grind.{flat_map-append}
 use Rattle.reader.specs.declared.faults.ReadFault.{ReadFault}
 use Rattle.records.specs.declared.kinds.Kind.{Kind}
 use Rattle.records.specs.declared.kinds.Kind.TheVariants.{Html, Text}
@@ -13,8 +13,6 @@ use Rattle.records.specs.Laws.{IsRecord, chain}
 use Rattle.records.proofs.Alone.{never, first_fits, record_alone}
 use Rattle.records.proofs.Series.{come_back}
 use Rattle.reader.specs.Reading.{read_of}
-use Rattle.writer.specs.declared.state.State.{State}
-use Rattle.writer.specs.declared.state.State.TheVariants.{NoneOpen, HtmlOpen, TextOpen}
 use Rattle.writer.specs.declared.faults.WriterFault.{WriterFault}
 use Rattle.writer.specs.declared.faults.WriterFault.TheVariants.{NoSpace}
 use Rattle.writer.specs.declared.state.CallKind.TheVariants as call
@@ -24,7 +22,7 @@ use Rattle.sittings.specs.Sittings.{Script, Sitting, grown, ended, accepted, nex
 use Rattle.sittings.specs.Calls.{left}
 use Rattle.sittings.specs.Truth.{Reads, NeverLies}
 use Rattle.sittings.proofs.Lawful.{Lawful}
-use Rattle.sittings.proofs.Runs.{bytes_of, Done, OpenAs, Current, joined_append, done_reads, done_record, begun_closes, sittings_sound}
+use Rattle.sittings.proofs.Runs.{bytes_of, same_ok, Done, OpenAs, Current, done_reads, done_record, begun_closes, sittings_sound}
 
 -- A sitting's writer and sink are as its calls leave them.
 next_moment : (page : ℕ) (encoded : ℕ → Option ℕ) (s : Sitting) (a : Ask) → (next page encoded s a).moment ≡ step page encoded s.moment a
@@ -44,9 +42,6 @@ next_moment page encoded s a = by (answer page encoded s.moment a)
 goes_moment : (page : ℕ) (encoded : ℕ → Option ℕ) (s : Sitting) (asks : List Ask) → (goes page encoded s asks).moment ≡ left page encoded s.moment asks
 goes_moment page encoded s [] = refl
 goes_moment page encoded s (a ∷ asks) = goes_moment page encoded (next page encoded s a) asks ∙ ap (λ m. left page encoded m asks) (next_moment page encoded s a)
-
-same_ok : {x y : ℕ} → ◌≡◌ {A = Result ℕ RecordFault} (Ok x) (Ok y) → x ≡ y
-same_ok e = cc
 
 -- Bytes that are records one after another are not records and then an unfinished one.
 never_both : (rs ss : List (List ℕ)) (x : List ℕ) → AllByRecursion IsRecord rs → AllByRecursion IsRecord ss → IsRecord (x ++ 125 ∷ []) → 0 < length x → flat_map (λ r. r) rs ≡ flat_map (λ r. r) ss ++ x → ⊥
@@ -88,7 +83,7 @@ closed_joined : (held : List ℕ) (rs : List Script) (o : Option Script) → hel
 closed_joined held rs None e = append-nil held ∙ e ∙ append-nil (flat_map (λ r. r.bytes) rs) ∙ joined_bytes rs
 closed_joined held rs (Some r) e =
     ap (λ l. l ++ 125 ∷ []) e ∙ append_assoc (flat_map (λ r. r.bytes) rs) r.bytes (125 ∷ [])
-    ∙ ap (λ l. flat_map (λ r. r.bytes) rs ++ l) (sym (append-nil (r.bytes ++ 125 ∷ []))) ∙ sym (joined_append rs (grown (125 ∷ []) r ∷ []))
+    ∙ ap (λ l. flat_map (λ r. r.bytes) rs ++ l) (sym (append-nil (r.bytes ++ 125 ∷ []))) ∙ sym (flat_map-append (λ r. r.bytes) rs (grown (125 ∷ []) r ∷ []))
     ∙ joined_bytes (rs ++ grown (125 ∷ []) r ∷ [])
 
 -- Entries of records that are finished but for the last.
@@ -110,10 +105,9 @@ module _ (page : ℕ) (decoded encoded : ℕ → Option ℕ) (lawful : Lawful pa
   open_done k size space None is = tt
   open_done k size space (Some r) is = begun_closes page decoded encoded lawful r is.1
 
-  current_done : (st : State) (size space : ℕ) (o : Option Script) → Current page decoded st size space o → IfSome o (λ r. Done page decoded (grown (125 ∷ []) r))
-  current_done NoneOpen size space o is = subst (λ x. IfSome x (λ r. Done page decoded (grown (125 ∷ []) r))) (sym is) tt
-  current_done HtmlOpen size space o is = open_done Html size space o is
-  current_done TextOpen size space o is = open_done Text size space o is
+  current_done : (st : Option Kind) (size space : ℕ) (o : Option Script) → Current page decoded st size space o → IfSome o (λ r. Done page decoded (grown (125 ∷ []) r))
+  current_done None size space o is = subst (λ x. IfSome x (λ r. Done page decoded (grown (125 ∷ []) r))) (sym is) tt
+  current_done (Some k) size space o is = open_done k size space o is
 
   -- Records with the same bytes have the same kind and content.
   same_entry : (r u : Script) → Done page decoded r → Done page decoded u → r.bytes ≡ u.bytes → entry_of true r ≡ entry_of true u
@@ -174,12 +168,12 @@ module _ (page : ℕ) (decoded encoded : ℕ → Option ℕ) (lawful : Lawful pa
           ap (λ x. and_then x (λ _. and_then (fits m finish 1) (λ _. Ok (125 ∷ [])))) may
           ∙ ap (λ x. and_then x (λ _. Ok (125 ∷ []))) (cond-false (ltb m.space 1) (Err NoSpace) (Ok tt) (le-ltb m.space 1 space))
 
-      by : (st : State) → m.state ≡ st → (o : Option Script) → Current page decoded st m.size m.space o → IfSome o (λ _. answer page encoded m finish ≡ Ok (125 ∷ []))
-      by NoneOpen e o is = subst (λ x. IfSome x (λ _. answer page encoded m finish ≡ Ok (125 ∷ []))) (sym is) tt
-      by HtmlOpen e None is = tt
-      by HtmlOpen e (Some r) is = accepts (ap (λ st. allowed st call.Finish) e) is.3
-      by TextOpen e None is = tt
-      by TextOpen e (Some r) is = accepts (ap (λ st. allowed st call.Finish) e) is.3
+      by : (st : Option Kind) → m.state ≡ st → (o : Option Script) → Current page decoded st m.size m.space o → IfSome o (λ _. answer page encoded m finish ≡ Ok (125 ∷ []))
+      by None e o is = subst (λ x. IfSome x (λ _. answer page encoded m finish ≡ Ok (125 ∷ []))) (sym is) tt
+      by (Some Html) e None is = tt
+      by (Some Html) e (Some r) is = accepts (ap (λ st. allowed st call.Finish) e) is.3
+      by (Some Text) e None is = tt
+      by (Some Text) e (Some r) is = accepts (ap (λ st. allowed st call.Finish) e) is.3
 
   -- The theorem.
   pub never_lies : NeverLies page decoded encoded

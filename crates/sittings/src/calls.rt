@@ -1,8 +1,7 @@
 // Calls as values, and their serving.
 ghost use Rattle.std.specs.Prelude.{◌≡◌, min, ◌++◌, map, length, take, drop};
-ghost use Rattle.writer.specs.Calls.{step};
-ghost use Rattle.writer.specs.Writers.{moment_of};
-ghost use Rattle.sittings.specs.Calls.{asked, answered, answers, left as left_after, told_of};
+ghost use Rattle.writer.specs.Writers.{moment_of, Serves};
+ghost use Rattle.sittings.specs.Calls.{asked, answers, left as left_after};
 ghost use Rattle.sittings.specs.Truth.{NeverLies};
 
 use pages::CodePage;
@@ -20,35 +19,20 @@ pub enum Call<'a> {
     Finish,
 }
 
-// What came of a call: how many bytes more the sink holds, or the refusal.
-#[derive(Clone, Copy)]
-pub enum Answer {
-    Accepted(usize),
-    Refused(WriterFault),
-}
-
-fn answer_of(told: Result<usize, WriterFault>) -> Answer
-    ensures { result ≡ told_of told }
-{
-    match told {
-        Ok(count) => Answer::Accepted(count),
-        Err(fault) => Answer::Refused(fault),
-    }
-}
-
 // Makes one call.
-pub fn make<P: CodePage, S: Sink>(writer: &mut Writer<P, S>, call: Call<'_>) -> Answer
-    ensures page { writer.new.page ≡ writer.old.page }
-    ensures told { result ≡ answered (P.CodePage.number writer.old.page) (P.CodePage.encoded writer.old.page) (moment_of S.Sink.held S.Sink.space writer.old) (asked call.entry) }
-    ensures left { moment_of S.Sink.held S.Sink.space writer.new ≡ step (P.CodePage.number writer.old.page) (P.CodePage.encoded writer.old.page) (moment_of S.Sink.held S.Sink.space writer.old) (asked call.entry) }
+pub fn make<P: CodePage, S: Sink>(
+    writer: &mut Writer<P, S>,
+    call: Call<'_>,
+) -> Result<usize, WriterFault>
+    ensures { Serves P.CodePage.number P.CodePage.encoded S.Sink.held S.Sink.space (asked call.entry) writer.old result writer.new }
 {
-    answer_of(match call {
+    match call {
         Call::Open(kind) => writer.open(kind),
         Call::Markup(piece) => writer.markup(piece),
         Call::Text(piece) => writer.text(piece),
         Call::Dress(decoration) => writer.dress(decoration),
         Call::Finish => writer.finish(),
-    })
+    }
 }
 
 // Makes calls one after the other, as many as there are places for answers, and tells how many were made. Whatever calls a writer
@@ -56,7 +40,7 @@ pub fn make<P: CodePage, S: Sink>(writer: &mut Writer<P, S>, call: Call<'_>) -> 
 pub fn serve<P: CodePage, S: Sink>(
     writer: &mut Writer<P, S>,
     calls: &[Call<'_>],
-    told: &mut [Answer],
+    told: &mut [Result<usize, WriterFault>],
 ) -> usize
     ensures count { result ≡ min (length calls.now) (length told.old) }
     ensures page { writer.new.page ≡ writer.old.page }
@@ -64,10 +48,10 @@ pub fn serve<P: CodePage, S: Sink>(
     ensures left { moment_of S.Sink.held S.Sink.space writer.new ≡ left_after (P.CodePage.number writer.old.page) (P.CodePage.encoded writer.old.page) (moment_of S.Sink.held S.Sink.space writer.old) (map asked (take result calls.now)) }
     ensures truth { NeverLies (P.CodePage.number writer.old.page) (P.CodePage.decoded writer.old.page) (P.CodePage.encoded writer.old.page) }
 {
-    let mut at = 0;
-    while at < calls.len() && at < told.len() {
-        told[at] = make(writer, calls[at]);
-        at += 1;
+    let count = calls.len().min(told.len());
+    // Not `told.iter_mut().zip(calls)`: of what is written through a zip no proof learns anything.
+    for (at, call) in calls[..count].iter().enumerate() {
+        told[at] = make(writer, *call);
     }
-    at
+    count
 }

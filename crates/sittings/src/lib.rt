@@ -4,5 +4,5 @@
 mod calls;
 mod examples;
 
-pub use calls::{Answer, Call, make, serve};
+pub use calls::{Call, make, serve};
 pub use examples::sittings_as_worked;

@@ -1,12 +1,13 @@
 // Takes the archive on standard input apart, and prints a line for each record.
 #![tactic(auto)]
 
-use records::{ArchiveFault, Part, Records};
+use layers::Fault;
+use records::{Part, Records};
 use std::io;
 use std::io::{BufWriter, Read, Write};
 
 // What has come apart so far.
-#[derive(Clone, Copy)]
+#[derive(Clone, Copy, Default)]
 struct Tally {
     records: u64,
     bytes: u64,
@@ -14,6 +15,7 @@ struct Tally {
 
 impl Tally {
     fn count(&mut self, record: &Part<'_>) {
+        // Not `count()`: it asks for a bound, and no contract bounds how many records an archive has.
         self.records = self.records.saturating_add(1);
         self.bytes = self.bytes.saturating_add(record.bytes.len() as u64);
     }
@@ -25,25 +27,15 @@ fn print_record<W: Write>(out: &mut W, number: u64, record: &Part<'_>) -> io::Re
     writeln!(out, "record {number} at {place} length {length}")
 }
 
-fn print_refusal<W: Write>(out: &mut W, fault: &ArchiveFault) -> io::Result<()> {
-    let number = fault.number();
-    let place = fault.place();
-    let layer = fault.layer().name();
-    writeln!(out, "refused {number} at {place} in {layer}")
-}
-
 fn print_records<W: Write>(out: &mut W, archive: &[u8]) -> io::Result<()> {
-    let mut tally = Tally {
-        records: 0,
-        bytes: 0,
-    };
+    let mut tally = Tally::default();
     for step in Records::new(archive) {
         match step {
             Ok(record) => {
                 tally.count(&record);
                 print_record(out, tally.records, &record)?;
             }
-            Err(fault) => print_refusal(out, &fault)?,
+            Err(fault) => writeln!(out, "{}", fault.refusal())?,
         }
     }
     let records = tally.records;

@@ -1,11 +1,13 @@
 -- The way to the next brace, one token at a time.
-use Rattle.std.proofs.Common.{◌≡◌, ℕ, ◌+◌, ◌<◌, ◌≤◌, List, [], ◌∷◌, length, get_or, drop, Some, None, Option, sym, refl, ap, ◌∙◌, arith}
-use Rattle.std.proofs.lemmas.List.{at_drop_more}
-use Rattle.std.proofs.lemmas.Bool.{cond-false, cond_both, ne_eqb}
+use Rattle.std.proofs.Common.{◌≡◌, ℕ, ◌+◌, ◌-◌, ◌<◌, ◌≤◌, true, false, cond, List, [], ◌∷◌, length, get_or, take, drop, Some, None, Option, sym, refl, ap, ◌∙◌, ⊎_elim, add-zero, one-add, arith}
+use Rattle.std.specs.List.{prefix_len}
+use Rattle.std.proofs.lemmas.List.{at_drop_more, at_drop_all, drop-drop, get_or-drop, length-drop, take_rest}
+use Rattle.std.proofs.lemmas.Bool.{cond-false, cond-true, cond_both, cases_Bool}
+use Rattle.std.proofs.lemmas.Bool.Decides.{nat_tests}
 use Rattle.tokens.specs.declared.faults.TokenFault.{TokenFault}
-use Rattle.tokens.specs.declared.scan.Class.TheVariants.{Layout}
-use Rattle.tokens.specs.Tokens.{Tok, opens, closes, word, hex, symbol, text, Front, layout, fault, token, within, control, front, Item, good, bad, next, next_by, items, items_by, from_brace}
+use Rattle.tokens.specs.Tokens.{Tok, opens, closes, word, hex, symbol, text, Front, layout, fault, token, is_layout, is_passive, control, front, Item, good, bad, next, next_by, items, items_by, from_brace}
 use Rattle.tokens.proofs.Fronts.{Control, control_gives}
+use Rattle.tokens.proofs.Steps.{leading_stops}
 use Rattle.tokens.proofs.Items.{items_none, items_bad, items_good}
 
 -- two constructors are never equal: cc then finds that 0 is 1
@@ -23,6 +25,32 @@ past_control m at (token (hex b) n) k o t p e h is = let q : t ≡ hex b = cc in
 past_control m at (token (symbol b) n) k o t p e h is = let q : t ≡ symbol b = cc in ap (λ x. from_brace (good x p e ∷ is)) q
 past_control m at (token (text b) n) k o t p e h is = absurd k
 
+front_passive : (b : ℕ) (rest : List ℕ) → is_passive b ≡ true → front b rest ≡ cond (is_layout b) layout (token (text b) 1)
+front_passive b rest e = grind (arith, nat_tests)
+
+-- text and layout are passed over
+past_front : (at b : ℕ) (rest : List ℕ) → is_passive b ≡ true → from_brace (items 0 at (b ∷ rest)) ≡ from_brace (items 0 (at + 1) rest)
+past_front at b rest e =
+    let by : Front → List Item = λ x. from_brace (items_by at x (λ k. items k (at + 1) rest)) in
+    ap by (front_passive b rest e)
+    ∙ cond_both (is_layout b) layout (token (text b) 1) (λ x. by x ≡ from_brace (items 0 (at + 1) rest)) (λ _. refl) (λ _. refl)
+
+past_run : (at : ℕ) (bs : List ℕ) → from_brace (items 0 at bs) ≡ from_brace (items 0 (at + prefix_len is_passive bs) (drop (prefix_len is_passive bs) bs))
+past_run at [] = refl
+past_run at (b ∷ bs) =
+    ⊎_elim
+    (λ e. let n = cond-true _ (1 + prefix_len is_passive bs) 0 e in
+    let s : at + 1 + prefix_len is_passive bs ≡ at + (1 + prefix_len is_passive bs) = omega arith in
+    past_front at b bs e ∙ past_run (at + 1) bs ∙ rw (n, s, one-add))
+    (λ e. rw (cond-false _ (1 + prefix_len is_passive bs) 0 e, add-zero))
+    (cases_Bool (is_passive b))
+
+-- so is a run of them, from a place on
+pub past_passive : (bytes : List ℕ) (at n : ℕ) → n ≡ prefix_len is_passive (take (length bytes - at) (drop at bytes)) → from_brace (items 0 at (drop at bytes)) ≡ from_brace (items 0 (at + n) (drop (at + n) bytes))
+past_passive bytes at n e =
+    let r : n ≡ prefix_len is_passive (drop at bytes) = e ∙ ap (prefix_len is_passive) (take_rest bytes at) in
+    past_run at (drop at bytes) ∙ ap (λ k. from_brace (items 0 (at + k) (drop k (drop at bytes)))) (sym r) ∙ ap (λ l. from_brace (items 0 (at + n) l)) (drop-drop n at bytes)
+
 module _ (bytes : List ℕ) (at : ℕ) (h : at < length bytes) where
   -- the items from a byte on, by what stands there
   here : items 0 at (drop at bytes) ≡ items_by at (front (get_or bytes at 0) (drop (at + 1) bytes)) (λ k. items k (at + 1) (drop (at + 1) bytes))
@@ -34,17 +62,7 @@ module _ (bytes : List ℕ) (at : ℕ) (h : at < length bytes) where
   pub brace_closes : get_or bytes at 0 ≡ 125 → good closes at (at + 1) ∷ items 0 (at + 1) (drop (at + 1) bytes) ≡ from_brace (items 0 at (drop at bytes))
   brace_closes e = sym (ap from_brace here ∙ ap (λ b. from_brace (items_by at (front b (drop (at + 1) bytes)) (λ k. items k (at + 1) (drop (at + 1) bytes)))) e)
 
-  -- text and layout are passed over
-  pub past_text : (get_or bytes at 0 ≡ 123 → ⊥) → (get_or bytes at 0 ≡ 125 → ⊥) → (get_or bytes at 0 ≡ 92 → ⊥) → from_brace (items 0 at (drop at bytes)) ≡ from_brace (items 0 (at + 1) (drop (at + 1) bytes))
-  past_text o c k =
-      let b = get_or bytes at 0 in
-      let rest = drop (at + 1) bytes in
-      let by : Front → List Item = λ x. from_brace (items_by at x (λ k. items k (at + 1) rest)) in
-      ap from_brace here
-      ∙ ap by (cond-false _ _ _ (ne_eqb b 123 o) ∙ cond-false _ _ _ (ne_eqb b 125 c) ∙ cond-false _ _ _ (ne_eqb b 92 k))
-      ∙ cond_both (within Layout b) layout (token (text b) 1) (λ x. by x ≡ from_brace (items 0 (at + 1) rest)) (λ _. refl) (λ _. refl)
-
-  -- so is what a backslash begins
+  -- what a backslash begins is passed over
   pub past_word : get_or bytes at 0 ≡ 92 → (t : Tok) (p e : ℕ) → at ≤ e → Some (good t p e) ≡ next at (drop at bytes) → from_brace (items 0 at (drop at bytes)) ≡ from_brace (items 0 e (drop e bytes))
   past_word s t p e l f =
       let rest = drop (at + 1) bytes in
@@ -56,3 +74,18 @@ module _ (bytes : List ℕ) (at : ℕ) (h : at < length bytes) where
 
   pub word_none : None ≡ next at (drop at bytes) → [] ≡ from_brace (items 0 at (drop at bytes))
   word_none e = sym (ap from_brace (items_none bytes at e))
+
+-- no brace stands at the end of the bytes
+pub past_end : (bytes : List ℕ) (at : ℕ) → length bytes ≤ at → from_brace (items 0 at (drop at bytes)) ≡ []
+past_end bytes at h = at_drop_all (λ l. from_brace (items 0 at l)) bytes at h
+
+not_passive : (b : ℕ) → is_passive b ≡ false → (b ≡ 123 → ⊥) → (b ≡ 125 → ⊥) → b ≡ 92
+not_passive b e o c = grind (arith, nat_tests)
+
+-- where a run of text and layout ends at no brace, a backslash stands
+pub backslash_here : (bytes : List ℕ) (at n : ℕ) → n ≡ prefix_len is_passive (take (length bytes - at) (drop at bytes)) → at + n < length bytes → (get_or bytes (at + n) 0 ≡ 123 → ⊥) → (get_or bytes (at + n) 0 ≡ 125 → ⊥) → get_or bytes (at + n) 0 ≡ 92
+backslash_here bytes at n e h o c =
+    let r : n ≡ prefix_len is_passive (drop at bytes) = e ∙ ap (prefix_len is_passive) (take_rest bytes at) in
+    let stops : is_passive (get_or bytes (at + n) 0) ≡ false =
+    ap is_passive (sym (get_or-drop at bytes n 0)) ∙ ap (λ k. is_passive (get_or (drop at bytes) k 0)) r ∙ leading_stops is_passive (drop at bytes) (omega (arith, length-drop at bytes)) in
+    not_passive _ stops o c

@@ -1,5 +1,5 @@
 -- What a token takes of the bytes at its front, and what it does not depend on.
-use Rattle.std.proofs.Common.{◌≡◌, ℕ, ◌+◌, ◌-◌, ◌≤◌, Bool, true, false, cond, eqb, ltb, leb, List, [], ◌∷◌, ◌++◌, length, take, drop, ℤ, Some, None, Option, sym, refl, ap, ◌∙◌, subst, ⊎_elim, arith}
+use Rattle.std.proofs.Common.{◌≡◌, ℕ, ◌+◌, ◌-◌, ◌≤◌, Bool, true, false, cond, eqb, ltb, leb, List, [], ◌∷◌, ◌++◌, length, take, drop, ℤ, Some, None, Ok, Err, Option, Result, sym, refl, ap, ◌∙◌, subst, ⊎_elim, arith}
 use Rattle.std.proofs.lemmas.List.{append-nil, drop-append-le, length-append, length-drop, length-take-le, take-append-drop, take-append-le}
 use Rattle.std.proofs.lemmas.List.Sums.{prefix_len-le-length}
 use Rattle.std.proofs.lemmas.Bool.{cond_both, cond-false, cond-true, eqb-true, le-leb, leb-true, both_ways, or_cases}
@@ -7,8 +7,9 @@ use Rattle.std.specs.Str.Parse.{digits_value}
 use Rattle.std.specs.Char.{is_ascii_digit, is_ascii_alphabetic}
 use Rattle.std.specs.List.{prefix_len}
 use Rattle.tokens.specs.declared.scan.Class.TheVariants.{Layout}
-use Rattle.tokens.specs.declared.scan.Number.{Number}
-use Rattle.tokens.specs.declared.scan.Number.TheVariants.{Absent, PastLimit, Value}
+use Rattle.tokens.specs.declared.faults.Flaw.{Flaw}
+use Rattle.tokens.specs.declared.faults.Flaw.TheVariants.{LongNumber}
+use Rattle.tokens.specs.declared.scan.Numeral.{Numeral}
 use Rattle.tokens.specs.Tokens.{Front, fault, layout, token}
 use Rattle.tokens.specs.Tokens.{Tok, closes, hex, opens, symbol, text, word}
 use Rattle.tokens.specs.Tokens.{begins, control, data_count, digits, front, hex_pair, hex_byte, byte_of, named, within}
@@ -94,17 +95,17 @@ space_alike : (us vs : List ℕ) → begins 32 us ≡ begins 32 vs → (n : ℕ)
 space_alike us vs e n w h = rw (drop-append-le n w us h, drop-append-le n w vs h) (begins_alike 32 us vs e (drop n w))
 
 -- How many bytes a number takes.
-abbrev taken : Number → ℕ
-taken Absent = 0
-taken PastLimit = 0
-taken (Value v n) = n
+abbrev taken : Result (Option Numeral) Flaw → ℕ
+taken (Ok None) = 0
+taken (Ok (Some v)) = v.length
+taken (Err f) = 0
 
 digits_fit : (m n k : ℕ) (bs : List ℕ) → m + n ≤ k → taken (digits m n bs) ≤ k
 digits_fit m n k bs h =
-    let P : Number → Type 0 = λ r. taken r ≤ k in
-    cond_both (eqb n 0) Absent _ P (λ _. omega arith)
-    (λ _. cond_both (ltb 10 n) PastLimit _ P (λ _. omega arith)
-    (λ _. cond_both (leb (digits_value 10 (take n bs)) (2147483647 + m)) _ PastLimit P (λ _. h) (λ _. omega arith)))
+    let P : Result (Option Numeral) Flaw → Type 0 = λ r. taken r ≤ k in
+    cond_both (eqb n 0) (Ok None) _ P (λ _. omega arith)
+    (λ _. cond_both (ltb 10 n) (Err LongNumber) _ P (λ _. omega arith)
+    (λ _. cond_both (leb (digits_value 10 (take n bs)) (2147483647 + m)) _ (Err LongNumber) P (λ _. h) (λ _. omega arith)))
 
 number_fits : (bs : List ℕ) → taken (number bs) ≤ length bs
 number_fits bs =
@@ -135,11 +136,11 @@ spaced_control m name v n bs l e h =
     cond_both (leb (data_count name v) (length bs - (n + begins 32 (drop n bs)))) _ _ (Control m)
     (λ q. let k = leb-true _ _ q in (omega arith, omega arith)) (λ _. tt)
 
-numbered_control : (m : ℕ) (name bs : List ℕ) (r : Number) → 1 ≤ length name → 1 + length name + length bs ≡ m →
+numbered_control : (m : ℕ) (name bs : List ℕ) (r : Result (Option Numeral) Flaw) → 1 ≤ length name → 1 + length name + length bs ≡ m →
     taken r ≤ length bs → Control m (numbered name bs r)
-numbered_control m name bs Absent l e h = spaced_control m name None 0 bs l e h
-numbered_control m name bs PastLimit l e h = tt
-numbered_control m name bs (Value v n) l e h = spaced_control m name (Some v) n bs l e h
+numbered_control m name bs (Ok None) l e h = spaced_control m name None 0 bs l e h
+numbered_control m name bs (Err f) l e h = tt
+numbered_control m name bs (Ok (Some v)) l e h = spaced_control m name (Some v.value) v.length bs l e h
 
 hex_byte_control : (m : ℕ) (o : Option ℕ) → 4 ≤ m → Control m (hex_byte o)
 hex_byte_control m None h = tt
@@ -312,11 +313,11 @@ module _ (j : ℕ) (us vs : List ℕ) (alike : Alike j us vs) where
       rw (space_alike us vs alike.space n w h)
       (with_data_local m _ _ _ _ _ (λ k. simp length-append (omega arith)))
 
-  numbered_local : (m : ℕ) (name w : List ℕ) (r : Number) → m ≤ 1 + length name + length w + j → taken r ≤ length w →
+  numbered_local : (m : ℕ) (name w : List ℕ) (r : Result (Option Numeral) Flaw) → m ≤ 1 + length name + length w + j → taken r ≤ length w →
       Keeps m (numbered name (w ++ us) r) (numbered name (w ++ vs) r)
-  numbered_local m name w Absent g h = spaced_local m name None 0 w g h
-  numbered_local m name w PastLimit g h = λ t n e _. e
-  numbered_local m name w (Value v n) g h = spaced_local m name (Some v) n w g h
+  numbered_local m name w (Ok None) g h = spaced_local m name None 0 w g h
+  numbered_local m name w (Err f) g h = λ t n e _. e
+  numbered_local m name w (Ok (Some v)) g h = spaced_local m name (Some v.value) v.length w g h
 
   named_local : (n : ℕ) (w : List ℕ) → n ≤ length w → Keeps (1 + length w + j) (named n (w ++ us)) (named n (w ++ vs))
   named_local n w h =

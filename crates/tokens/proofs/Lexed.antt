@@ -1,5 +1,5 @@
 -- The tokens of bytes that are put one after another.
-use Rattle.std.proofs.Common.{◌≡◌, ℕ, zero, suc, ◌+◌, ◌-◌, ◌/◌, ◌%◌, ◌^◌, ◌<◌, ◌≤◌, true, false, eqb, ltb, List, [], ◌∷◌, ◌++◌, length, take, drop, ℤ, pos, negsuc, Some, codes, decimal, sym, refl, ap, ◌∙◌, subst, add-zero, arith}
+use Rattle.std.proofs.Common.{◌≡◌, ℕ, zero, suc, ◌+◌, ◌-◌, ◌/◌, ◌%◌, ◌^◌, ◌<◌, ◌≤◌, true, false, eqb, ltb, List, [], ◌∷◌, ◌++◌, length, take, drop, ℤ, pos, negsuc, Some, Ok, codes, decimal, sym, refl, ap, ◌∙◌, subst, add-zero, arith}
 use lib.Signed.{mag}
 use Rattle.std.proofs.lemmas.Fmt.{decimal_is_IsNumeral, length-decimal-le}
 use Rattle.std.proofs.lemmas.List.{append_assoc, at_drop_all, drop_at, length-append, take_all, take_at}
@@ -10,9 +10,8 @@ use Rattle.std.specs.Char.{is_ascii_digit, is_ascii_hexdigit, is_ascii_alphabeti
 use Rattle.std.specs.Fmt.{signed_decimal}
 use Rattle.std.specs.List.{prefix_len}
 use Rattle.std.specs.Str.{bytes_eq}
-use Rattle.tokens.specs.declared.scan.Number.TheVariants.{Value}
 use Rattle.tokens.specs.Tokens.{Tok, closes, hex, opens, symbol, text, word, Front, fault, layout, token, Item, bad, good, front, items, items_by}
-use Rattle.tokens.specs.Tokens.{begins, control, digits, hex_byte, limited, named, number, number_after, numbered, spaced, with_data}
+use Rattle.tokens.specs.Tokens.{begins, control, digits, hex_byte, limited, named, number, number_after, numeral, numbered, spaced, with_data}
 use Rattle.tokens.specs.Tokens as tokens
 use Rattle.tokens.proofs.Fronts.{Stops, front_before, front_local, front_positive, leading_before, parts_space}
 use Rattle.tokens.proofs.Items.{items_skip}
@@ -237,7 +236,7 @@ digits_parted (c ∷ ds) d =
     (cond-false _ _ _ (or_from _ _ (and_left _ _ (lt-leb 65 c (omega arith))) (and_left _ _ (lt-leb 97 c (omega arith)))), cond-false _ _ _ (ne_eqb c 45 (λ e. omega arith)))
 
 -- The number that a numeral of at most ten digits writes, after m minus signs.
-digits_read : (m n : ℕ) → n ≤ 2147483647 + m → m ≤ 1 → number_after m (decimal n) ≡ Value (tokens.signed m n) (m + length (decimal n))
+digits_read : (m n : ℕ) → n ≤ 2147483647 + m → m ≤ 1 → number_after m (decimal n) ≡ Ok (Some (numeral (tokens.signed m n) (m + length (decimal n))))
 digits_read m n small few =
     let reads = decimal_is_IsNumeral n (omega arith) in
     let short : length (decimal n) ≤ 10 = length-decimal-le 10 n (omega arith) (omega arith) (omega arith) in
@@ -251,11 +250,11 @@ signed_parted : (z : ℤ) → mag z < 2 ^ 31 → prefix_len is_ascii_alphabetic 
 signed_parted (pos n) h = (digits_parted (decimal n) (decimal_is_IsNumeral n (omega arith)).0.1).0
 signed_parted (negsuc n) h = refl
 
-signed_read : (z : ℤ) → mag z < 2 ^ 31 → number (signed_decimal z) ≡ Value z (length (signed_decimal z))
+signed_read : (z : ℤ) → mag z < 2 ^ 31 → number (signed_decimal z) ≡ Ok (Some (numeral z (length (signed_decimal z))))
 signed_read (pos n) h =
     ap (λ m. number_after m (drop m (decimal n))) (digits_parted (decimal n) (decimal_is_IsNumeral n (omega arith)).0.1).1
-    ∙ digits_read 0 n (omega arith) (omega arith) ∙ ap (Value (pos n)) (omega arith)
-signed_read (negsuc n) h = digits_read 1 (suc n) (omega arith) (omega arith) ∙ ap (Value (negsuc n)) (omega arith)
+    ∙ digits_read 0 n (omega arith) (omega arith) ∙ ap (λ k. Ok (Some (numeral (pos n) k))) (omega arith)
+signed_read (negsuc n) h = digits_read 1 (suc n) (omega arith) (omega arith) ∙ ap (λ k. Ok (Some (numeral (negsuc n) k))) (omega arith)
 
 -- The letters after a backslash, and the bytes after them.
 first_letter : (b : ℕ) (name : List ℕ) → prefix_len is_ascii_alphabetic (b ∷ name) ≡ length (b ∷ name) → is_ascii_alphabetic b ≡ true

@@ -1,10 +1,16 @@
 -- What callers need of lengths and places besides the values.
-use Rattle.std.specs.Prelude.{ℕ}
-use Rattle.tokens.specs.declared.scan.Number.{Number}
-use Rattle.tokens.specs.declared.scan.Number.TheVariants.{Absent, PastLimit, Value}
+use Rattle.std.specs.Prelude.{ℕ, ◌<◌, ◌≤◌, Some, None, Ok, Err, Option, Result}
+use Rattle.tokens.specs.declared.faults.Flaw.{Flaw}
+use Rattle.tokens.specs.declared.lexer.Lexeme.{Lexeme}
+use Rattle.tokens.specs.declared.scan.Numeral.{Numeral}
 
--- A fact of the count of bytes that a number takes.
-abbrev pub NumberFits : Number → (ℕ → Type 0) → Type 0
-NumberFits Absent P = Unit {0}
-NumberFits PastLimit P = Unit {0}
-NumberFits (Value v n) P = P n
+-- A number lies within n bytes.
+abbrev pub NumberFits : ℕ → Result (Option Numeral) Flaw → Type 0
+NumberFits n (Ok None) = Unit {0}
+NumberFits n (Ok (Some v)) = v.length ≤ n
+NumberFits n (Err f) = Unit {0}
+
+-- A token takes a byte at least, and lies within n bytes.
+abbrev pub LexemeFits : ℕ → Result Lexeme Flaw → Type 0
+LexemeFits n (Ok l) = (0 < l.length) × (l.length ≤ n)
+LexemeFits n (Err f) = Unit {0}

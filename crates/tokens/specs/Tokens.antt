@@ -1,6 +1,6 @@
 -- What stands at the front of some bytes, and the tokens of given bytes, in the format's order.
 -- Bytes are numbers; a place counts the given bytes from 0.
-use Rattle.std.specs.Prelude.{ℕ, zero, suc, ◌+◌, ◌-◌, Bool, cond, not, ◌&&◌, ◌||◌, List, [], ◌∷◌, length, take, drop, ℤ, pos, negsuc, neg_ℤ, Some, None, codes, Option, ◌==◌, nat_le, nat_lt}
+use Rattle.std.specs.Prelude.{ℕ, zero, suc, ◌+◌, ◌-◌, Bool, cond, not, ◌&&◌, ◌||◌, List, [], ◌∷◌, length, take, drop, ℤ, pos, negsuc, neg_ℤ, Some, None, Ok, Err, codes, Option, Result, ◌==◌, nat_le, nat_lt}
 use Rattle.std.specs.Str.Parse.{digits_value}
 use Rattle.std.specs.Char.{is_ascii_digit, is_ascii_hexdigit, is_ascii_alphabetic}
 use Rattle.std.specs.List.{prefix_len}
@@ -9,9 +9,8 @@ use Rattle.tokens.specs.declared.faults.Flaw.{Flaw}
 use Rattle.tokens.specs.declared.faults.Flaw.TheVariants.{LoneBackslash, NoHexDigits, LongName, LongNumber, BinPastEnd}
 use Rattle.tokens.specs.declared.faults.TokenFault.{TokenFault}
 use Rattle.tokens.specs.declared.scan.Class.{Class}
-use Rattle.tokens.specs.declared.scan.Class.TheVariants.{Letter, Digit, Layout}
-use Rattle.tokens.specs.declared.scan.Number.{Number}
-use Rattle.tokens.specs.declared.scan.Number.TheVariants.{Absent, PastLimit, Value}
+use Rattle.tokens.specs.declared.scan.Class.TheVariants.{Letter, Digit, Layout, Plain, Passive}
+use Rattle.tokens.specs.declared.scan.Numeral.{Numeral}
 
 -- A token: a brace, a control word with its name and number, a byte by two hexadecimal digits, a control symbol, a text byte.
 pub data Tok : Type 0 where
@@ -28,15 +27,25 @@ pub data Front : Type 0 where
   fault : Flaw → Front
   token : Tok → ℕ → Front
 
--- The bytes of a class; CR and LF are layout.
-abbrev pub within : Class → ℕ → Bool
-within Letter b = is_ascii_alphabetic b
-within Digit b = is_ascii_digit b
-within Layout b = b == 13 || b == 10
+-- CR and LF are layout.
+abbrev pub is_layout : ℕ → Bool
+is_layout b = b == 13 || b == 10
 
 -- Plain text: below 128, and neither a brace nor a backslash nor layout.
 abbrev pub is_plain : ℕ → Bool
-is_plain b = nat_lt b 128 && (not (b == 123) && (not (b == 125) && (not (b == 92) && not (within Layout b))))
+is_plain b = nat_lt b 128 && (not (b == 123) && (not (b == 125) && (not (b == 92) && not (is_layout b))))
+
+-- Neither a brace nor a backslash.
+abbrev pub is_passive : ℕ → Bool
+is_passive b = not (b == 123) && (not (b == 125) && not (b == 92))
+
+-- The bytes of a class.
+abbrev pub within : Class → ℕ → Bool
+within Letter b = is_ascii_alphabetic b
+within Digit b = is_ascii_digit b
+within Layout b = is_layout b
+within Plain b = is_plain b
+within Passive b = is_passive b
 
 -- 1 where the bytes begin with b, else 0.
 abbrev pub begins : ℕ → List ℕ → ℕ
@@ -47,19 +56,23 @@ begins b (x ∷ xs) = cond (x == b) 1 0
 abbrev pub signed : ℕ → ℕ → ℤ
 signed m v = cond (m == 0) (pos v) (neg_ℤ (pos v))
 
+-- A number by its value and the count of bytes that it takes.
+abbrev pub numeral : ℤ → ℕ → Numeral
+numeral v n = record { value = v; length = n }
+
 -- A number lies within 32 signed bits; it takes the minus and n digits.
-abbrev pub limited : ℕ → ℕ → ℕ → Number
-limited m v n = cond (nat_le v (2147483647 + m)) (Value (signed m v) (m + n)) PastLimit
+abbrev pub limited : ℕ → ℕ → ℕ → Result (Option Numeral) Flaw
+limited m v n = cond (nat_le v (2147483647 + m)) (Ok (Some (numeral (signed m v) (m + n)))) (Err LongNumber)
 
 -- n digits stand at the front, after m minus signs: one to ten of them are a number.
-abbrev pub digits : ℕ → ℕ → List ℕ → Number
-digits m n bs = cond (n == 0) Absent (cond (nat_lt 10 n) PastLimit (limited m (digits_value 10 (take n bs)) n))
+abbrev pub digits : ℕ → ℕ → List ℕ → Result (Option Numeral) Flaw
+digits m n bs = cond (n == 0) (Ok None) (cond (nat_lt 10 n) (Err LongNumber) (limited m (digits_value 10 (take n bs)) n))
 
 -- An optional minus and the longest run of digits.
-abbrev pub number_after : ℕ → List ℕ → Number
+abbrev pub number_after : ℕ → List ℕ → Result (Option Numeral) Flaw
 number_after m bs = digits m (prefix_len is_ascii_digit bs) bs
 
-abbrev pub number : List ℕ → Number
+abbrev pub number : List ℕ → Result (Option Numeral) Flaw
 number bs = number_after (begins 45 bs) (drop (begins 45 bs) bs)
 
 -- A number above 0, else 0.
@@ -81,10 +94,10 @@ abbrev pub spaced : List ℕ → Option ℤ → ℕ → List ℕ → Front
 spaced name v n bs = with_data (word name v) (1 + length name + (n + begins 32 (drop n bs))) (data_count name v) (length bs - (n + begins 32 (drop n bs)))
 
 -- A word by its name, the bytes after the name, and the number that these begin with.
-abbrev pub numbered : List ℕ → List ℕ → Number → Front
-numbered name bs Absent = spaced name None 0 bs
-numbered name bs PastLimit = fault LongNumber
-numbered name bs (Value v n) = spaced name (Some v) n bs
+abbrev pub numbered : List ℕ → List ℕ → Result (Option Numeral) Flaw → Front
+numbered name bs (Ok None) = spaced name None 0 bs
+numbered name bs (Ok (Some v)) = spaced name (Some v.value) v.length bs
+numbered name bs (Err f) = fault f
 
 -- A word after its backslash, n letters long: at most 32.
 abbrev pub named : ℕ → List ℕ → Front
@@ -111,7 +124,7 @@ control (b ∷ bs) = cond (is_ascii_alphabetic b) (named (prefix_len is_ascii_al
 
 -- What stands at the front of the bytes b ∷ bs.
 abbrev pub front : ℕ → List ℕ → Front
-front b bs = cond (b == 123) (token opens 1) (cond (b == 125) (token closes 1) (cond (b == 92) (control bs) (cond (within Layout b) layout (token (text b) 1))))
+front b bs = cond (b == 123) (token opens 1) (cond (b == 125) (token closes 1) (cond (b == 92) (control bs) (cond (is_layout b) layout (token (text b) 1))))
 
 -- A token with its place and the place after it, or a fault.
 pub data Item : Type 0 where

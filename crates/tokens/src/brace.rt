@@ -5,12 +5,13 @@ ghost use Rattle.tokens.specs.Shown.{brace_items, BraceFits};
 
 use crate::faults::TokenFault;
 use crate::lexer::next_token;
+use crate::scan::{Class, run_length};
 
-// A brace, with its place.
+// A brace, by its place.
 #[derive(Clone, Copy)]
-pub struct Brace {
-    pub opens: bool,
-    pub place: usize,
+pub enum Brace {
+    Open(usize),
+    Close(usize),
 }
 
 // The first brace from `from` on, or the fault before it. The tokens before it open and close no group, and no more is
@@ -19,28 +20,22 @@ pub fn next_brace(bytes: &[u8], from: usize) -> Result<Option<Brace>, TokenFault
     ensures value { brace_items bytes.now result ≡ from_brace (items 0 from (drop from bytes.now)) }
     ensures bound { BraceFits from (length bytes.now) result }
 {
+    // A token's end is known once it is read, so no range counts the place.
     let mut at = from;
     while at < bytes.len() {
-        match bytes[at] {
-            b'{' => {
-                return Ok(Some(Brace {
-                    opens: true,
-                    place: at,
-                }));
-            }
-            b'}' => {
-                return Ok(Some(Brace {
-                    opens: false,
-                    place: at,
-                }));
-            }
-            b'\\' => {
-                let Some(found) = next_token(bytes, at)? else {
+        let place = at + run_length(&bytes[at..], Class::Passive);
+        if place >= bytes.len() {
+            break;
+        }
+        match bytes[place] {
+            b'{' => return Ok(Some(Brace::Open(place))),
+            b'}' => return Ok(Some(Brace::Close(place))),
+            _ => {
+                let Some(found) = next_token(bytes, place)? else {
                     break;
                 };
                 at = found.end;
             }
-            _ => at += 1,
         }
     }
     Ok(None)

@@ -1,8 +1,7 @@
 // What can be wrong with a token.
-ghost use Rattle.std.specs.Prelude.{◌≡◌};
 ghost use Rattle.tokens.specs.Faults.{number_of, place_of, layer_of};
 
-use layers::Layer;
+use layers::{Fault, Layer};
 
 // What is wrong at a backslash.
 #[derive(Clone, Copy, PartialEq, Eq, Debug)]
@@ -26,22 +25,22 @@ pub struct TokenFault {
     pub place: usize,
 }
 
-impl TokenFault {
-    pub fn number(&self) -> u8
-        ensures { result ≡ number_of self.now }
-    {
+impl Fault for TokenFault {
+    ghost number = { number_of };
+
+    ghost place = { place_of };
+
+    ghost layer = { layer_of };
+
+    fn number(&self) -> u8 {
         2
     }
 
-    pub fn place(&self) -> usize
-        ensures { result ≡ place_of self.now }
-    {
+    fn place(&self) -> usize {
         self.place
     }
 
-    pub fn layer(&self) -> Layer
-        ensures { result ≡ layer_of self.now }
-    {
+    fn layer(&self) -> Layer {
         Layer::Tokens
     }
 }

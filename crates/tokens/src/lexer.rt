@@ -1,14 +1,14 @@
 // The next token of given bytes.
-ghost use Rattle.std.specs.Prelude.{◌≡◌, ◌+◌, ◌-◌, ◌<◌, ◌≤◌, false, length, drop, None as NoItem, slice_index};
+ghost use Rattle.std.specs.Prelude.{◌≡◌, ◌+◌, ◌≤◌, false, length, drop};
 ghost use Rattle.std.specs.Char.{is_ascii_alphabetic};
 ghost use Rattle.std.specs.List.{prefix_len};
-ghost use Rattle.tokens.specs.declared.scan.Class.TheVariants.{Layout as LayoutBytes};
-ghost use Rattle.tokens.specs.Tokens.{begins, within as class_has, word as word_tok, data_count, with_data, named, hex_pair, control as control_of, front, next_by, next};
+ghost use Rattle.tokens.specs.Tokens.{is_layout, spaced as spaced_by, data_count, named, hex_pair, control as control_of, front as front_of, next};
 ghost use Rattle.tokens.specs.Names.{name_at};
-ghost use Rattle.tokens.specs.Shown.{shown_item, shown_next, FoundFits, ItemFits};
+ghost use Rattle.tokens.specs.Bounds.{LexemeFits};
+ghost use Rattle.tokens.specs.Shown.{shown_front, shown_next, FoundFits};
 
 use crate::faults::{Flaw, TokenFault};
-use crate::scan::{Class, Number, begins_with, hex_pair, number_at, run_end};
+use crate::scan::{Class, begins_with, hex_pair, number_at, run_length};
 
 // The most letters that a name has.
 const MAX_NAME: usize = 32;
@@ -35,6 +35,13 @@ pub struct Found<'a> {
     pub end: usize,
 }
 
+// A token at the front of some bytes, and how many of them it takes.
+#[derive(Clone, Copy)]
+struct Lexeme<'a> {
+    token: Token<'a>,
+    length: usize,
+}
+
 // The first token from `at` on, with its place; none where only layout is left.
 pub fn next_token<'a>(bytes: &'a [u8], at: usize) -> Result<Option<Found<'a>>, TokenFault>
     ensures value { shown_next result ≡ next at (drop at bytes.now) }
@@ -43,135 +50,106 @@ pub fn next_token<'a>(bytes: &'a [u8], at: usize) -> Result<Option<Found<'a>>, T
     if at >= bytes.len() {
         return Ok(None);
     }
-    let place = run_end(bytes, at, Class::Layout);
-    if place >= bytes.len() {
+    let given = &bytes[at..];
+    let skipped = run_length(given, Class::Layout);
+    let Some((first, rest)) = given[skipped..].split_first() else {
         return Ok(None);
+    };
+    let place = at + skipped;
+    match front(*first, rest) {
+        Ok(Lexeme { token, length }) => Ok(Some(Found {
+            token,
+            place,
+            end: place + length,
+        })),
+        Err(flaw) => Err(TokenFault { flaw, place }),
     }
-    Ok(Some(token_at(bytes, place)?))
 }
 
-// The token at a byte that is not layout.
-fn token_at<'a>(bytes: &'a [u8], place: usize) -> Result<Found<'a>, TokenFault>
-    requires within { place < length bytes.now }
-    requires solid { class_has LayoutBytes (slice_index bytes.now place) ≡ false }
-    ensures value { shown_item result ≡ next_by place (front (slice_index bytes.now place) (drop (place + 1) bytes.now)) NoItem }
-    ensures bound { ItemFits place (length bytes.now) result }
+// The token that begins with a byte that is not layout, and goes on in those after it.
+fn front<'a>(first: u8, rest: &'a [u8]) -> Result<Lexeme<'a>, Flaw>
+    requires { is_layout first ≡ false }
+    ensures value { shown_front result ≡ front_of first rest.now }
+    ensures bound { LexemeFits (1 + length rest.now) result }
 {
-    let token = match bytes[place] {
+    let token = match first {
         b'{' => Token::Open,
         b'}' => Token::Close,
-        b'\\' => return control(bytes, place),
+        b'\\' => return control(rest),
         b => Token::Text(b),
     };
-    Ok(Found {
-        token,
-        place,
-        end: place + 1,
-    })
+    Ok(Lexeme { token, length: 1 })
 }
 
-// The token that the backslash at `place` begins.
-fn control<'a>(bytes: &'a [u8], place: usize) -> Result<Found<'a>, TokenFault>
-    requires { place < length bytes.now }
-    ensures value { shown_item result ≡ next_by place (control_of (drop (place + 1) bytes.now)) NoItem }
-    ensures bound { ItemFits place (length bytes.now) result }
+// The token that a backslash begins, by the bytes after it.
+fn control<'a>(bytes: &'a [u8]) -> Result<Lexeme<'a>, Flaw>
+    ensures value { shown_front result ≡ control_of bytes.now }
+    ensures bound { LexemeFits (1 + length bytes.now) result }
 {
-    let from = place + 1;
-    if from >= bytes.len() {
-        return Err(TokenFault {
-            flaw: Flaw::LoneBackslash,
-            place,
-        });
+    let Some((first, rest)) = bytes.split_first() else {
+        return Err(Flaw::LoneBackslash);
+    };
+    match *first {
+        b if b.is_ascii_alphabetic() => word(bytes),
+        b'\'' => hex(rest),
+        b => Ok(Lexeme {
+            token: Token::Symbol(b),
+            length: 2,
+        }),
     }
-    let b = bytes[from];
-    if b.is_ascii_alphabetic() {
-        return word(bytes, place);
-    }
-    if b == b'\'' {
-        return hex(bytes, place);
-    }
-    Ok(Found {
-        token: Token::Symbol(b),
-        place,
-        end: from + 1,
-    })
 }
 
-// A byte by two hexadecimal digits, after the `\'` at `place`.
-fn hex<'a>(bytes: &'a [u8], place: usize) -> Result<Found<'a>, TokenFault>
-    requires { place + 1 < length bytes.now }
-    ensures value { shown_item result ≡ next_by place (hex_pair (drop (place + 2) bytes.now)) NoItem }
-    ensures bound { ItemFits place (length bytes.now) result }
+// A byte by two hexadecimal digits, which come after `\'`.
+fn hex<'a>(bytes: &'a [u8]) -> Result<Lexeme<'a>, Flaw>
+    ensures value { shown_front result ≡ hex_pair bytes.now }
+    ensures bound { LexemeFits (2 + length bytes.now) result }
 {
-    if bytes.len() - place < 4 {
-        return Err(TokenFault {
-            flaw: Flaw::NoHexDigits,
-            place,
-        });
-    }
-    match hex_pair(bytes[place + 2], bytes[place + 3]) {
-        Some(byte) => Ok(Found {
+    let [high, low, ..] = bytes else {
+        return Err(Flaw::NoHexDigits);
+    };
+    match hex_pair(*high, *low) {
+        Some(byte) => Ok(Lexeme {
             token: Token::Hex(byte),
-            place,
-            end: place + 4,
+            length: 4,
         }),
-        None => Err(TokenFault {
-            flaw: Flaw::NoHexDigits,
-            place,
-        }),
+        None => Err(Flaw::NoHexDigits),
     }
 }
 
-// The control word at `place`: its name and its number.
-fn word<'a>(bytes: &'a [u8], place: usize) -> Result<Found<'a>, TokenFault>
-    requires { place < length bytes.now }
-    ensures value { shown_item result ≡ next_by place (named (prefix_len is_ascii_alphabetic (drop (place + 1) bytes.now)) (drop (place + 1) bytes.now)) NoItem }
-    ensures bound { ItemFits place (length bytes.now) result }
+// The control word whose name these bytes begin with, with its number.
+fn word<'a>(bytes: &'a [u8]) -> Result<Lexeme<'a>, Flaw>
+    ensures value { shown_front result ≡ named (prefix_len is_ascii_alphabetic bytes.now) bytes.now }
+    ensures bound { LexemeFits (1 + length bytes.now) result }
 {
-    let from = place + 1;
-    let name_end = run_end(bytes, from, Class::Letter);
-    if name_end - from > MAX_NAME {
-        return Err(TokenFault {
-            flaw: Flaw::LongName,
-            place,
-        });
+    let (name, rest) = bytes.split_at(run_length(bytes, Class::Letter));
+    if name.len() > MAX_NAME {
+        return Err(Flaw::LongName);
     }
-    let name = &bytes[from..name_end];
-    match number_at(bytes, name_end) {
-        Number::Absent => word_end(bytes, place, name, None, name_end),
-        Number::PastLimit => Err(TokenFault {
-            flaw: Flaw::LongNumber,
-            place,
-        }),
-        Number::Value(value, taken) => word_end(bytes, place, name, Some(value), name_end + taken),
+    match number_at(rest)? {
+        Some(numeral) => spaced(name, Some(numeral.value), numeral.length, rest),
+        None => spaced(name, None, 0, rest),
     }
 }
 
-// The control word at `place` whose name and number end at `end`: one space belongs to it, then the data of `\bin`.
-fn word_end<'a>(
-    bytes: &'a [u8],
-    place: usize,
+// The control word whose number takes so many of the bytes after its name: one space belongs to it, then the data of `\bin`.
+fn spaced<'a>(
     name: &'a [u8],
     number: Option<i32>,
-    end: usize,
-) -> Result<Found<'a>, TokenFault>
-    requires after { place < end }
-    requires within { end ≤ length bytes.now }
-    ensures value { shown_item result ≡ next_by place (with_data (word_tok name.now number) (end + begins 32 (drop end bytes.now) - place) (data_count name.now number) (length bytes.now - (end + begins 32 (drop end bytes.now)))) NoItem }
-    ensures bound { ItemFits place (length bytes.now) result }
+    taken: usize,
+    rest: &'a [u8],
+) -> Result<Lexeme<'a>, Flaw>
+    requires { taken ≤ length rest.now }
+    ensures value { shown_front result ≡ spaced_by name.now number taken rest.now }
+    ensures bound { LexemeFits (1 + length name.now + length rest.now) result }
 {
-    let end = end + begins_with(bytes, end, b' ');
+    let space = begins_with(&rest[taken..], b' ');
     let count = data_count(name, number);
-    if count > bytes.len() - end {
-        return Err(TokenFault {
-            flaw: Flaw::BinPastEnd,
-            place,
-        });
+    if count > rest.len() - (taken + space) {
+        return Err(Flaw::BinPastEnd);
     }
-    Ok(Found {
+    Ok(Lexeme {
         token: Token::Word { name, number },
-        place,
-        end: end + count,
+        length: 1 + name.len() + (taken + space) + count,
     })
 }
 
@@ -195,7 +173,6 @@ pub fn name_at<'a>(bytes: &'a [u8], place: usize) -> &'a [u8]
     if place >= bytes.len() {
         return &bytes[0..0];
     }
-    let from = place + 1;
-    let end = run_end(bytes, from, Class::Letter);
-    &bytes[from..end]
+    let rest = &bytes[place + 1..];
+    &rest[..run_length(rest, Class::Letter)]
 }

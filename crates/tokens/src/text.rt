@@ -3,21 +3,15 @@ ghost use Rattle.std.specs.Prelude.{◌≡◌, ◌+◌, ◌≤◌, max, length, 
 ghost use Rattle.std.specs.List.{prefix_len};
 ghost use Rattle.tokens.specs.Tokens.{is_plain};
 
-// Whether a byte is plain text: ASCII, and neither a brace nor a backslash nor layout.
-fn is_plain(b: u8) -> bool
-    ensures { result ≡ is_plain b }
-{
-    b < 128 && b != b'{' && b != b'}' && b != b'\\' && b != b'\r' && b != b'\n'
-}
+use crate::scan::{Class, run_length};
 
 // Where the run of plain text that begins at `from` ends. Each of its bytes is a token.
 pub fn text_end(bytes: &[u8], from: usize) -> usize
     ensures value { result ≡ from + prefix_len is_plain (drop from bytes.now) }
     ensures bound { result ≤ max from (length bytes.now) }
 {
-    let mut at = from;
-    while at < bytes.len() && is_plain(bytes[at]) {
-        at += 1;
+    if from >= bytes.len() {
+        return from;
     }
-    at
+    from + run_length(&bytes[from..], Class::Plain)
 }

@@ -1,4 +1,5 @@
 // Numbers that look random, and are the same in each run.
+ghost use Rattle.std.specs.Prelude.{◌≡◌, ◌<◌, length, Contains};
 
 #[derive(Clone, Copy)]
 pub struct Dice {
@@ -11,13 +12,16 @@ impl Dice {
     }
 
     // A number below the limit, or 0 where that is 0.
-    pub fn below(&mut self, limit: usize) -> usize {
+    pub fn below(&mut self, limit: usize) -> usize
+        ensures none { limit ≡ 0 → result ≡ 0 }
+        ensures within { 0 < limit → result < limit }
+    {
         self.state = self
             .state
             .wrapping_mul(6_364_136_223_846_793_005)
             .wrapping_add(1_442_695_040_888_963_407);
         let high = (self.state >> 33) as usize;
-        if limit == 0 { 0 } else { high % limit }
+        high.checked_rem(limit).unwrap_or(0)
     }
 
     // True once in so many times.
@@ -26,33 +30,20 @@ impl Dice {
     }
 
     pub fn byte(&mut self) -> u8 {
-        let [low, _, _, _, _, _, _, _] = self.below(256).to_le_bytes();
-        low
+        self.below(256) as u8
     }
 
     // A character out of all that there are, or `?` where the number is that of none.
     pub fn character(&mut self) -> char {
-        let most = match self.below(4) {
-            0 => 0x100,
-            1 => 0x600,
-            2 => 0x10000,
-            _ => 0x110000,
-        };
-        match u32::try_from(self.below(most)) {
-            Ok(code) => char::from_u32(code).unwrap_or('?'),
-            Err(_) => '?',
-        }
+        let most = self.one_of(&[0x100, 0x600, 0x10000, 0x110000]);
+        char::from_u32(self.below(most) as u32).unwrap_or('?')
     }
 
-    // One of the texts.
-    pub fn one_of(&mut self, texts: &[&'static str]) -> &'static str {
-        let index = self.below(texts.len());
-        texts.get(index).copied().unwrap_or("")
-    }
-
-    // One of the strings of bytes.
-    pub fn bytes_of(&mut self, strings: &[&'static [u8]]) -> &'static [u8] {
-        let index = self.below(strings.len());
-        strings.get(index).copied().unwrap_or(b"")
+    // One of the given things, or an empty one where there are none.
+    pub fn one_of<T: Copy + Default>(&mut self, things: &[T]) -> T
+        ensures { 0 < length things.now → Contains things.now result }
+    {
+        let place = self.below(things.len());
+        things.get(place).copied().unwrap_or_default()
     }
 }

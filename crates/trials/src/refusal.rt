@@ -1,69 +1,87 @@
 // What a second implementation refuses, and what else keeps it from going on.
-use std::alloc::{AllocError, AllocFailed};
+ghost use Rattle.std.specs.Prelude.{◌≡◌, IfOk, IfErr};
+ghost use Rattle.layers.specs.declared.refusal.Refusal.{Refusal as RefusalOf};
 
-// A refusal by its number, place and layer.
-#[derive(Clone, Copy, PartialEq, Eq)]
-pub struct Refusal {
-    pub number: u8,
-    pub place: usize,
-    pub layer: &'static str,
+use crate::scan::Faulty;
+use layers::{Layer, Refusal};
+use std::alloc::AllocError;
+use thiserror::Error;
+
+// Why a second implementation refuses, with the format's number: these are written down once more, for comparison with what
+// the library's faults tell.
+#[derive(Clone, Copy)]
+pub enum Reason {
+    NotRtf = 1,
+    FaultyToken = 2,
+    TooDeep = 3,
+    Unclosed = 4,
+    Trailing = 5,
+    NoMark = 6,
+    WrongPage = 7,
+    NoCharacter = 8,
+    NoUnit = 9,
+    LoneHalf = 10,
+    TooLongToRead = 12,
+    NotUtf8 = 13,
+    Unbalanced = 14,
+    MarkerWord = 15,
+    NotPrintable = 16,
+    NoneOpen = 21,
+    AlreadyOpen = 22,
+    TextOpen = 23,
+    NoSpace = 24,
+    TooLongToWrite = 25,
+    ShortBuffer = 26,
 }
 
-impl Refusal {
-    pub fn of_tokens(place: usize) -> Refusal {
-        Refusal {
-            number: 2,
-            place,
-            layer: "tokens",
+impl Reason {
+    fn layer(self) -> Layer {
+        match self {
+            Reason::FaultyToken => Layer::Tokens,
+            Reason::TooDeep | Reason::Unclosed | Reason::Unbalanced => Layer::Groups,
+            Reason::NotRtf | Reason::Trailing | Reason::NoMark | Reason::WrongPage => Layer::Record,
+            Reason::NoCharacter | Reason::NoUnit | Reason::LoneHalf => Layer::Record,
+            Reason::TooLongToRead | Reason::ShortBuffer => Layer::Record,
+            _ => Layer::Writer,
         }
     }
 
-    pub fn of_groups(number: u8, place: usize) -> Refusal {
+    // The refusal for this reason at a place.
+    pub fn at(self, place: usize) -> Refusal
+        ensures { result.place ≡ place }
+    {
         Refusal {
-            number,
+            number: self as u8,
             place,
-            layer: "groups",
-        }
-    }
-
-    pub fn of_record(number: u8, place: usize) -> Refusal {
-        Refusal {
-            number,
-            place,
-            layer: "record",
-        }
-    }
-
-    pub fn of_writer(number: u8, place: usize) -> Refusal {
-        Refusal {
-            number,
-            place,
-            layer: "writer",
+            layer: self.layer(),
         }
     }
 }
 
 // Why a second implementation stops: a refusal, or no memory.
-#[derive(Clone, Copy)]
+#[derive(Debug, Drop, Error)]
 pub enum Stop {
-    Refused(Refusal),
-    Memory,
+    #[error("{0}")]
+    Refused(#[from] Refusal),
+    #[error(transparent)]
+    Memory(#[from(alloc)] AllocError),
 }
 
-impl From<Refusal> for Stop {
-    fn from(refusal: Refusal) -> Stop {
-        Stop::Refused(refusal)
+// Lets `?` pass a faulty token on.
+impl From<Faulty<'_>> for Stop {
+    fn from(faulty: Faulty<'_>) -> Stop {
+        Stop::Refused(Reason::FaultyToken.at(faulty.place))
     }
 }
 
-impl From<AllocError> for Stop {
-    fn from(_e: AllocError) -> Stop {
-        Stop::Memory
-    }
-}
-
-impl<T: Drop> From<AllocFailed<T>> for Stop {
-    fn from(_e: AllocFailed<T>) -> Stop {
-        Stop::Memory
+// What a second implementation answers, a refusal being an answer too. Want of memory is none, and ends the trial.
+pub fn answered<T>(told: Result<T, Stop>) -> Result<Result<T, Refusal>, AllocError>
+    ensures value { IfOk told (λ value. result ≡ Ok (Ok value)) }
+    ensures refusal { IfErr told (λ stop. (refusal : RefusalOf) → stop ≡ Stop.Refused refusal → result ≡ Ok (Err refusal)) }
+{
+    match told {
+        Ok(value) => Ok(Ok(value)),
+        Err(Stop::Refused(refusal)) => Ok(Err(refusal)),
+        Err(Stop::Memory(e)) => Err(e),
     }
 }

@@ -1,65 +1,61 @@
 // The calls, a line each, served by any writer.
-use crate::hex::parse_hex;
+use crate::digits::parse_digits;
+use crate::session::Session;
 use pages::CodePage;
 use records::Kind;
 use sinks::Sink;
-use sittings::{Answer, Call, serve};
-use std::alloc::{AllocError, Global};
+use sittings::{Call, serve};
 use std::io;
 use std::io::Write;
 use writer::{Writer, WriterFault};
 
-// Serves each line, and prints how it was answered.
-pub fn serve_lines<P: CodePage, S: Sink, W: Write>(
-    heap: Global,
-    out: &mut W,
-    writer: &mut Writer<P, S>,
-    calls: &str,
-) -> io::Result<()> {
-    for line in calls.lines() {
-        match serve_line(heap, writer, line)? {
-            Some(Answer::Accepted(count)) => writeln!(out, "accepted {count}")?,
-            Some(Answer::Refused(fault)) => print_refusal(out, fault)?,
-            None => writeln!(out, "unknown call")?,
+impl<'a, P: CodePage + Copy, W: Write> Session<'a, P, W> {
+    // Serves each line on a sink, and prints how it was answered. Gives the sink back, and whether a record is open.
+    pub fn serve_lines<S: Sink + Drop>(&mut self, sink: S, calls: &str) -> io::Result<(S, bool)> {
+        let mut writer = Writer::new(self.page, sink);
+        for line in calls.lines() {
+            let (_, digits) = line.split_once(' ').unwrap_or((line, ""));
+            let piece = parse_digits(self.heap, digits)?;
+            match call_of(line, piece.as_deref()) {
+                Some(call) => self.serve_call(&mut writer, call)?,
+                None => writeln!(self.out, "unknown call")?,
+            }
+        }
+        let open = writer.state().is_some();
+        Ok((writer.into_sink(), open))
+    }
+
+    fn serve_call<S: Sink>(&mut self, writer: &mut Writer<P, S>, call: Call<'_>) -> io::Result<()> {
+        match serve_one(writer, call) {
+            Ok(count) => writeln!(self.out, "accepted {count}"),
+            Err(fault) => self.print_refusal(&fault),
         }
     }
-    Ok(())
 }
 
-// Serves the call of a line, or gives none where the line is no call.
-fn serve_line<P: CodePage, S: Sink>(
-    heap: Global,
-    writer: &mut Writer<P, S>,
-    line: &str,
-) -> Result<Option<Answer>, AllocError> {
+// The call of a line, or none where the line is no call. `piece` is what follows the first space, if those are digits.
+fn call_of<'a>(line: &str, piece: Option<&'a [u8]>) -> Option<Call<'a>> {
     match line {
-        "open html" => return Ok(Some(serve_one(writer, Call::Open(Kind::Html)))),
-        "open text" => return Ok(Some(serve_one(writer, Call::Open(Kind::Text)))),
-        "finish" => return Ok(Some(serve_one(writer, Call::Finish))),
+        "open html" => return Some(Call::Open(Kind::Html)),
+        "open text" => return Some(Call::Open(Kind::Text)),
+        "finish" => return Some(Call::Finish),
         _ => {}
     }
-    let (name, digits) = line.split_once(' ').unwrap_or((line, ""));
-    let Some(piece) = parse_hex(heap, digits)? else {
-        return Ok(None);
-    };
-    match name {
-        "markup" => Ok(Some(serve_one(writer, Call::Markup(&piece)))),
-        "text" => Ok(Some(serve_one(writer, Call::Text(&piece)))),
-        "dress" => Ok(Some(serve_one(writer, Call::Dress(&piece)))),
-        _ => Ok(None),
+    let piece = piece?;
+    match line.split(' ').next()? {
+        "markup" => Some(Call::Markup(piece)),
+        "text" => Some(Call::Text(piece)),
+        "dress" => Some(Call::Dress(piece)),
+        _ => None,
     }
 }
 
 // Serves one call, by the library's call whose contract says what holds of every sitting.
-fn serve_one<P: CodePage, S: Sink>(writer: &mut Writer<P, S>, call: Call<'_>) -> Answer {
-    let mut told = [Answer::Accepted(0)];
+fn serve_one<P: CodePage, S: Sink>(
+    writer: &mut Writer<P, S>,
+    call: Call<'_>,
+) -> Result<usize, WriterFault> {
+    let mut told = [Ok(0)];
     let _ = serve(writer, &[call], &mut told);
     told[0]
-}
-
-fn print_refusal<W: Write>(out: &mut W, fault: WriterFault) -> io::Result<()> {
-    let number = fault.number();
-    let place = fault.place();
-    let layer = fault.layer().name();
-    writeln!(out, "refused {number} at {place} in {layer}")
 }

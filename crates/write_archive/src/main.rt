@@ -7,74 +7,47 @@
 #![tactic(auto)]
 
 mod calls;
-mod hex;
+mod digits;
 mod script;
+mod session;
 mod setting;
 
-use calls::serve_lines;
 use pages::{Ascii20127, CodePage, Windows1251, Windows1252};
-use script::print_script;
+use session::Session;
 use setting::{Page, Place, Setting};
-use sinks::{BufferSink, CARD_SIZE, Card, CardSink, Sink, cards_for};
+use sinks::{BufferSink, Card, CardSink, Sink, cards_for};
 use std::io;
 use std::io::{BufWriter, Read, Write};
 use std::str::from_utf8;
-use writer::{State, Writer};
 
 // The most space that is laid out: 16 MiB.
 const MOST_SPACE: usize = 16_777_216;
 
-// Serves the calls into a buffer.
-fn run_buffer<P: CodePage + Copy, W: Write>(
-    rt: &HostRuntime,
-    out: &mut W,
-    page: P,
-    space: usize,
-    calls: &str,
-) -> io::Result<()> {
-    let mut room = vec![in rt.alloc(); 0u8; space]?;
-    let mut writer = Writer::new(page, BufferSink::new(&mut room));
-    serve_lines(rt.alloc(), out, &mut writer, calls)?;
-    let open = !matches!(writer.state(), State::NoneOpen);
-    let archive = writer.into_sink().into_written();
-    print_script(rt.alloc(), out, &page, archive, open)
-}
-
-// Serves the calls onto cards, and unloads them.
-fn run_cards<P: CodePage + Copy, W: Write>(
-    rt: &HostRuntime,
-    out: &mut W,
-    page: P,
-    space: usize,
-    calls: &str,
-) -> io::Result<()> {
-    let blank = Card {
-        count: 0,
-        data: [0; CARD_SIZE],
-    };
-    let mut cards = vec![in rt.alloc(); blank; cards_for(space)]?;
-    let mut writer = Writer::new(page, CardSink::new(&mut cards));
-    serve_lines(rt.alloc(), out, &mut writer, calls)?;
-    let open = !matches!(writer.state(), State::NoneOpen);
-    let pile = writer.into_sink();
-    let mut archive = vec![in rt.alloc(); 0u8; pile.count()]?;
-    match pile.unload(&mut archive) {
-        Ok(_) => print_script(rt.alloc(), out, &page, &archive, open),
-        Err(_) => writeln!(out, "the cards could not be unloaded"),
+impl<'a, P: CodePage + Copy, W: Write> Session<'a, P, W> {
+    // Serves the calls where the setting says. Two arms: each lays out a sink of another type.
+    fn run(&mut self, setting: &Setting, calls: &str) -> io::Result<()> {
+        match setting.place {
+            Place::Buffer => self.run_buffer(setting.space, calls),
+            Place::Cards => self.run_cards(setting.space, calls),
+        }
     }
-}
 
-// Serves the calls in a page.
-fn run<P: CodePage + Copy, W: Write>(
-    rt: &HostRuntime,
-    out: &mut W,
-    page: P,
-    setting: &Setting,
-    calls: &str,
-) -> io::Result<()> {
-    match setting.place {
-        Place::Buffer => run_buffer(rt, out, page, setting.space, calls),
-        Place::Cards => run_cards(rt, out, page, setting.space, calls),
+    // Serves the calls into a buffer.
+    fn run_buffer(&mut self, space: usize, calls: &str) -> io::Result<()> {
+        let mut room = vec![in self.heap; 0u8; space]?;
+        let (sink, open) = self.serve_lines(BufferSink::new(&mut room), calls)?;
+        self.print_script(sink.into_written(), open)
+    }
+
+    // Serves the calls onto cards, and unloads them.
+    fn run_cards(&mut self, space: usize, calls: &str) -> io::Result<()> {
+        let mut cards = vec![in self.heap; Card::BLANK; cards_for(space)]?;
+        let (pile, open) = self.serve_lines(CardSink::new(&mut cards), calls)?;
+        let mut archive = vec![in self.heap; 0u8; pile.count()]?;
+        match pile.unload(&mut archive) {
+            Ok(_) => self.print_script(&archive, open),
+            Err(_) => writeln!(self.out, "the cards could not be unloaded"),
+        }
     }
 }
 
@@ -85,17 +58,20 @@ fn main(rt: HostRuntime) -> io::Result<()> {
         return println!(rt; "the input is not UTF-8");
     };
     let (first, calls) = text.split_once('\n').unwrap_or((text, ""));
-    let Some(setting) = Setting::parse(first.trim_end()) else {
-        return println!(rt; "expected: page N space S sink buffer|cards");
+    let setting = match first.trim_end().parse::<Setting>() {
+        Ok(setting) => setting,
+        Err(e) => return println!(rt; "{e}"),
     };
     if setting.space > MOST_SPACE {
         return println!(rt; "too much space: at most {MOST_SPACE} bytes are laid out");
     }
     let mut out = BufWriter::new(rt.alloc(), rt.stdout())?;
+    // Each page is a type of its own, so each has its own session.
+    let heap = rt.alloc();
     match setting.page {
-        Page::Windows1252 => run(&rt, &mut out, Windows1252, &setting, calls)?,
-        Page::Windows1251 => run(&rt, &mut out, Windows1251, &setting, calls)?,
-        Page::Ascii20127 => run(&rt, &mut out, Ascii20127, &setting, calls)?,
+        Page::Windows1252 => Session::new(heap, &mut out, Windows1252).run(&setting, calls)?,
+        Page::Windows1251 => Session::new(heap, &mut out, Windows1251).run(&setting, calls)?,
+        Page::Ascii20127 => Session::new(heap, &mut out, Ascii20127).run(&setting, calls)?,
     }
     out.flush()
 }

@@ -1,5 +1,7 @@
 // The first line: in which page to write, how much space there is, and where.
 use std::num::IntErrorKind;
+use std::str::FromStr;
+use thiserror::Error;
 
 #[derive(Clone, Copy)]
 pub enum Page {
@@ -21,49 +23,68 @@ pub struct Setting {
     pub place: Place,
 }
 
-impl Setting {
-    // Reads `page N space S sink buffer|cards`, or gives none where the line is not that.
-    pub fn parse(line: &str) -> Option<Setting> {
+// A line that is no setting.
+#[derive(Clone, Copy, Debug, Error)]
+#[error("expected: page N space S sink buffer|cards")]
+pub struct NoSetting;
+
+// Reads `page N space S sink buffer|cards`.
+impl FromStr for Setting {
+    type Err = NoSetting;
+
+    fn from_str(line: &str) -> Result<Setting, NoSetting> {
         let mut words = line.split(' ');
-        let page = parse_page(after(words.next(), "page", words.next())?)?;
+        let page = after(words.next(), "page", words.next())?.parse::<Page>()?;
         let space = parse_space(after(words.next(), "space", words.next())?)?;
-        let place = parse_place(after(words.next(), "sink", words.next())?)?;
-        if words.next().is_some() {
-            return None;
+        let place = after(words.next(), "sink", words.next())?.parse::<Place>()?;
+        match words.next() {
+            Some(_) => Err(NoSetting),
+            None => Ok(Setting { page, space, place }),
         }
-        Some(Setting { page, space, place })
+    }
+}
+
+impl FromStr for Page {
+    type Err = NoSetting;
+
+    fn from_str(word: &str) -> Result<Page, NoSetting> {
+        match word {
+            "1252" => Ok(Page::Windows1252),
+            "1251" => Ok(Page::Windows1251),
+            "20127" => Ok(Page::Ascii20127),
+            _ => Err(NoSetting),
+        }
+    }
+}
+
+impl FromStr for Place {
+    type Err = NoSetting;
+
+    fn from_str(word: &str) -> Result<Place, NoSetting> {
+        match word {
+            "buffer" => Ok(Place::Buffer),
+            "cards" => Ok(Place::Cards),
+            _ => Err(NoSetting),
+        }
     }
 }
 
 // The word after the one that names it.
-fn after<'a>(word: Option<&'a str>, name: &str, next: Option<&'a str>) -> Option<&'a str> {
-    if word? == name { next } else { None }
-}
-
-fn parse_page(word: &str) -> Option<Page> {
-    match word {
-        "1252" => Some(Page::Windows1252),
-        "1251" => Some(Page::Windows1251),
-        "20127" => Some(Page::Ascii20127),
-        _ => None,
+fn after<'a>(
+    word: Option<&'a str>,
+    name: &str,
+    next: Option<&'a str>,
+) -> Result<&'a str, NoSetting> {
+    match (word, next) {
+        (Some(word), Some(next)) if word == name => Ok(next),
+        _ => Err(NoSetting),
     }
 }
 
 // A number that is too large to be one is as much space as can be told.
-fn parse_space(word: &str) -> Option<usize> {
-    match word.parse::<usize>() {
-        Ok(space) => Some(space),
-        Err(e) => match e.kind() {
-            IntErrorKind::PosOverflow => Some(usize::MAX),
-            _ => None,
-        },
-    }
-}
-
-fn parse_place(word: &str) -> Option<Place> {
-    match word {
-        "buffer" => Some(Place::Buffer),
-        "cards" => Some(Place::Cards),
-        _ => None,
-    }
+fn parse_space(word: &str) -> Result<usize, NoSetting> {
+    word.parse::<usize>().or_else(|e| match e.kind() {
+        IntErrorKind::PosOverflow => Ok(usize::MAX),
+        _ => Err(NoSetting),
+    })
 }

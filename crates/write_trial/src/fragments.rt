@@ -1,6 +1,6 @@
 // The texts that pieces and decoration are put together from.
 
-pub const ASCII: [&str; 10] = [
+pub const ASCII: &[&str] = &[
     "a",
     "Hello, world",
     "the quick brown fox ",
@@ -13,7 +13,7 @@ pub const ASCII: [&str; 10] = [
     "u8364?",
 ];
 
-pub const LATIN: [&str; 8] = [
+pub const LATIN: &[&str] = &[
     "\u{E9}t\u{E9}",
     "\u{20AC}5",
     "\u{A0}",
@@ -24,7 +24,7 @@ pub const LATIN: [&str; 8] = [
     "\u{178}\u{192}",
 ];
 
-pub const CYRILLIC: [&str; 6] = [
+pub const CYRILLIC: &[&str] = &[
     "\u{41F}\u{440}\u{438}\u{432}\u{435}\u{442}",
     "\u{401}\u{451}",
     "\u{2116}",
@@ -34,7 +34,7 @@ pub const CYRILLIC: [&str; 6] = [
 ];
 
 // What none of the pages has, within 16 bits.
-pub const WIDE: [&str; 10] = [
+pub const WIDE: &[&str] = &[
     "\u{65E5}\u{672C}\u{8A9E}",
     "\u{4E2D}\u{6587}",
     "\u{D55C}\u{AE00}",
@@ -48,7 +48,7 @@ pub const WIDE: [&str; 10] = [
 ];
 
 // What takes two units.
-pub const BEYOND: [&str; 8] = [
+pub const BEYOND: &[&str] = &[
     "\u{1F600}",
     "\u{1F469}\u{200D}\u{1F4BB}",
     "\u{10000}",
@@ -59,7 +59,7 @@ pub const BEYOND: [&str; 8] = [
     "\u{1D11E}",
 ];
 
-pub const BREAKS: [&str; 10] = [
+pub const BREAKS: &[&str] = &[
     "\r\n",
     "\r",
     "\n",
@@ -72,7 +72,7 @@ pub const BREAKS: [&str; 10] = [
     "\rx",
 ];
 
-pub const CONTROLS: [&str; 8] = [
+pub const CONTROLS: &[&str] = &[
     "\t",
     "\t\t",
     "\u{0}",
@@ -83,7 +83,7 @@ pub const CONTROLS: [&str; 8] = [
     "\u{B}\u{C}",
 ];
 
-pub const SPECIAL: [&str; 10] = [
+pub const SPECIAL: &[&str] = &[
     "{",
     "}",
     "\\",
@@ -96,7 +96,7 @@ pub const SPECIAL: [&str; 10] = [
     "\\u-10179?",
 ];
 
-pub const MARKUP: [&str; 8] = [
+pub const MARKUP: &[&str] = &[
     "<p>",
     "</p>",
     "<a href=\"x\">",
@@ -108,7 +108,7 @@ pub const MARKUP: [&str; 8] = [
 ];
 
 // Bytes that are no UTF-8, though some are a part of it.
-pub const BROKEN: [&[u8]; 24] = [
+pub const BROKEN: &[&[u8]] = &[
     b"\x80",
     b"\xBF",
     b"\xC0\x80",
@@ -136,7 +136,7 @@ pub const BROKEN: [&[u8]; 24] = [
 ];
 
 // Decoration that may stand.
-pub const DRESSING: [&str; 28] = [
+pub const DRESSING: &[&str] = &[
     "\\b ",
     "\\b0 ",
     "\\i",
@@ -168,7 +168,7 @@ pub const DRESSING: [&str; 28] = [
 ];
 
 // Words of the encapsulation itself.
-pub const MARKERS: [&str; 7] = [
+pub const MARKERS: &[&str] = &[
     "\\htmlrtf",
     "\\htmltag",
     "\\mhtmltag",
@@ -178,7 +178,7 @@ pub const MARKERS: [&str; 7] = [
     "\\bin",
 ];
 
-pub const NUMBERS: [&str; 12] = [
+pub const NUMBERS: &[&str] = &[
     "",
     " ",
     "0 ",
@@ -194,7 +194,7 @@ pub const NUMBERS: [&str; 12] = [
 ];
 
 // Faulty tokens.
-pub const FAULTY: [&str; 10] = [
+pub const FAULTY: &[&str] = &[
     "\\'",
     "\\'4",
     "\\'4g",
@@ -208,6 +208,6 @@ pub const FAULTY: [&str; 10] = [
 ];
 
 // Bytes that decoration may not have.
-pub const UNPRINTABLE: [&[u8]; 8] = [
+pub const UNPRINTABLE: &[&[u8]] = &[
     b"\x1F", b"\x7F", b"\r\n", b"\n", b"\t", b"\xE9", b"\xFF", b"\0",
 ];

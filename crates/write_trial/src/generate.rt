@@ -2,8 +2,11 @@
 use crate::fragments;
 use records::Kind;
 use std::alloc::{AllocError, Global};
-use trials::Dice;
+use std::fmt;
+use trials::{Dice, Draft};
+use writer::CallKind;
 
+// A writing call. It owns its piece, which is made up for it; `sittings::Call` borrows one, and is what a writer serves.
 #[derive(Drop)]
 pub enum Call {
     Open(Kind),
@@ -13,14 +16,29 @@ pub enum Call {
     Finish,
 }
 
-// The writing calls, without what is written.
-#[derive(Clone, Copy)]
-enum Choice {
-    Open,
-    Markup,
-    Text,
-    Dress,
-    Finish,
+impl Call {
+    // The same call, its piece lent.
+    pub fn lent(&self) -> sittings::Call<'_> {
+        match self {
+            Call::Open(kind) => sittings::Call::Open(*kind),
+            Call::Markup(piece) => sittings::Call::Markup(piece),
+            Call::Text(piece) => sittings::Call::Text(piece),
+            Call::Dress(piece) => sittings::Call::Dress(piece),
+            Call::Finish => sittings::Call::Finish,
+        }
+    }
+}
+
+impl fmt::Display for Call {
+    fn fmt<W: fmt::Write>(&self, f: &mut fmt::Formatter<W>) -> fmt::Result {
+        match self {
+            Call::Open(kind) => write!(f, "open {kind}"),
+            Call::Markup(piece) => write!(f, "markup {piece:?}"),
+            Call::Text(piece) => write!(f, "text {piece:?}"),
+            Call::Dress(piece) => write!(f, "dress {piece:?}"),
+            Call::Finish => write!(f, "finish"),
+        }
+    }
 }
 
 // What a call is chosen by.
@@ -35,213 +53,186 @@ pub struct Outlook {
 
 // Any call, though mostly one that the state takes.
 pub fn next_call(heap: Global, dice: &mut Dice, outlook: Outlook) -> Result<Call, AllocError> {
-    match choose(dice, outlook.open) {
-        Choice::Open if dice.once_in(2) => Ok(Call::Open(Kind::Html)),
-        Choice::Open => Ok(Call::Open(Kind::Text)),
-        Choice::Markup => Ok(Call::Markup(piece(heap, dice, outlook, 13)?)),
-        Choice::Text => Ok(Call::Text(piece(heap, dice, outlook, 0)?)),
-        Choice::Dress => Ok(Call::Dress(dressing(heap, dice, outlook)?)),
-        Choice::Finish => Ok(Call::Finish),
-    }
-}
-
-fn choose(dice: &mut Dice, open: Option<Kind>) -> Choice {
-    let throw = dice.below(100);
-    match open {
-        None if throw < 80 => Choice::Open,
-        Some(Kind::Html) if throw < 35 => Choice::Text,
-        Some(Kind::Html) if throw < 60 => Choice::Markup,
-        Some(Kind::Html) if throw < 90 => Choice::Dress,
-        Some(Kind::Text) if throw < 75 => Choice::Text,
-        _ => match dice.below(5) {
-            0 => Choice::Open,
-            1 => Choice::Markup,
-            2 => Choice::Text,
-            3 => Choice::Dress,
-            _ => Choice::Finish,
-        },
+    let mut piece = PieceDraft {
+        draft: Draft::new(heap, dice),
+        outlook,
+    };
+    match piece.choice() {
+        CallKind::Open if piece.draft.dice.once_in(2) => Ok(Call::Open(Kind::Html)),
+        CallKind::Open => Ok(Call::Open(Kind::Text)),
+        CallKind::Markup => Ok(Call::Markup(piece.typed(13)?)),
+        CallKind::Text => Ok(Call::Text(piece.typed(0)?)),
+        CallKind::Dress => Ok(Call::Dress(piece.dressing()?)),
+        CallKind::Finish => Ok(Call::Finish),
     }
 }
 
 // A piece that grows.
 #[derive(Drop)]
-struct Draft<'a> {
-    dice: &'a mut Dice,
-    bytes: Vec<u8>,
+struct PieceDraft<'a> {
+    draft: Draft<'a>,
+    outlook: Outlook,
 }
 
-impl Draft<'_> {
-    fn text(&mut self, text: &str) -> Result<(), AllocError> {
-        self.bytes.extend_from_slice(text.as_bytes())
-    }
-
-    fn pick(&mut self, texts: &[&'static str]) -> Result<(), AllocError> {
-        let text = self.dice.one_of(texts);
-        self.text(text)
-    }
-
-    fn pick_bytes(&mut self, strings: &[&'static [u8]]) -> Result<(), AllocError> {
-        let bytes = self.dice.bytes_of(strings);
-        self.bytes.extend_from_slice(bytes)
-    }
-
-    // Letters, so many that they just fit, or one or two more or less.
-    fn letters(&mut self, fits: usize, frame: usize) -> Result<(), AllocError> {
-        let more = self.dice.below(4);
-        let count = fits
-            .saturating_sub(frame)
-            .saturating_add(more)
-            .saturating_sub(1);
-        let length = self.bytes.len().saturating_add(count);
-        self.bytes.resize(length, b'x')
-    }
-
-    fn character(&mut self) -> Result<(), AllocError> {
-        let mut room = [0u8; 4];
-        let character = self.dice.character();
-        let text = character.encode_utf8(&mut room);
-        self.bytes.extend_from_slice(text.as_bytes())
-    }
-
-    // A part of a piece, in one of many alphabets.
-    fn fragment(&mut self) -> Result<(), AllocError> {
-        match self.dice.below(26) {
-            0..=7 => self.pick(&fragments::ASCII),
-            8..=9 => self.pick(&fragments::LATIN),
-            10..=11 => self.pick(&fragments::CYRILLIC),
-            12..=13 => self.pick(&fragments::WIDE),
-            14..=15 => self.pick(&fragments::BEYOND),
-            16..=17 => self.pick(&fragments::BREAKS),
-            18 => self.pick(&fragments::CONTROLS),
-            19..=20 => self.pick(&fragments::SPECIAL),
-            21..=22 => self.pick(&fragments::MARKUP),
-            _ => self.character(),
+impl PieceDraft<'_> {
+    // Which call to make. The ranges are the odds.
+    fn choice(&mut self) -> CallKind {
+        let throw = self.draft.dice.below(100);
+        match self.outlook.open {
+            None if throw < 80 => CallKind::Open,
+            Some(Kind::Html) if throw < 35 => CallKind::Text,
+            Some(Kind::Html) if throw < 60 => CallKind::Markup,
+            Some(Kind::Html) if throw < 90 => CallKind::Dress,
+            Some(Kind::Text) if throw < 75 => CallKind::Text,
+            _ => match self.draft.dice.below(5) {
+                0 => CallKind::Open,
+                1 => CallKind::Markup,
+                2 => CallKind::Text,
+                3 => CallKind::Dress,
+                _ => CallKind::Finish,
+            },
         }
     }
 
+    // Whether a piece is made to fit just so.
+    fn is_measured(&mut self) -> bool {
+        let often = if self.outlook.long { 6 } else { 16 };
+        self.outlook.fits < 40_000 && self.draft.dice.once_in(often)
+    }
+
+    // How many parts a piece has at most: few, or in a long sitting sometimes more than a record may have.
+    fn parts(&mut self, few: usize) -> usize {
+        let throw = if self.outlook.long {
+            self.draft.dice.below(12)
+        } else {
+            0
+        };
+        match throw {
+            0..=6 => few,
+            7..=10 => 900,
+            _ => 8_000,
+        }
+    }
+
+    // Letters, so many that with the frame of the piece they just fit, or one or two more or less.
+    fn letters(&mut self, frame: usize) -> Result<(), AllocError> {
+        let more = self.draft.dice.below(4);
+        let count = self
+            .outlook
+            .fits
+            .saturating_sub(frame)
+            .saturating_add(more)
+            .saturating_sub(1);
+        self.draft.repeat(b'x', count)
+    }
+
+    // A piece of markup or of text, which has a frame of some bytes around it.
+    fn typed(mut self, frame: usize) -> Result<Vec<u8>, AllocError> {
+        let measured = self.is_measured();
+        let broken = self.draft.dice.once_in(12);
+        let most = self.parts(9);
+        if measured {
+            self.letters(frame)?;
+            return Ok(self.draft.bytes);
+        }
+        self.fragments(most)?;
+        if broken {
+            self.draft.pick(fragments::BROKEN)?;
+            self.fragments(3)?;
+        }
+        if self.draft.dice.once_in(40) {
+            let _ = self.draft.bytes.pop();
+        }
+        Ok(self.draft.bytes)
+    }
+
+    // Decoration, which has its frame too.
+    fn dressing(mut self) -> Result<Vec<u8>, AllocError> {
+        let measured = self.is_measured();
+        let flaws = match self.draft.dice.below(8) {
+            0..=3 => 0,
+            4..=6 => 1,
+            _ => 2,
+        };
+        let most = self.parts(6);
+        if measured {
+            self.letters(19)?;
+            return Ok(self.draft.bytes);
+        }
+        self.dressings(most)?;
+        for _ in 0..flaws {
+            self.flaw()?;
+            self.dressings(4)?;
+        }
+        Ok(self.draft.bytes)
+    }
+
     fn fragments(&mut self, most: usize) -> Result<(), AllocError> {
-        let count = self.dice.below(most);
-        for _ in 0..count {
+        for _ in 0..self.draft.dice.below(most) {
             self.fragment()?;
         }
         Ok(())
     }
 
-    // A group or more, one within the other, as many as may be or one more.
-    fn nested(&mut self) -> Result<(), AllocError> {
-        let depth = match self.dice.below(4) {
-            0 => 64,
-            1 => 63,
-            2 => 62,
-            _ => self.dice.below(20),
+    // A part of a piece, in one of many alphabets.
+    fn fragment(&mut self) -> Result<(), AllocError> {
+        let alphabet: &[&str] = match self.draft.dice.below(26) {
+            0..=7 => fragments::ASCII,
+            8..=9 => fragments::LATIN,
+            10..=11 => fragments::CYRILLIC,
+            12..=13 => fragments::WIDE,
+            14..=15 => fragments::BEYOND,
+            16..=17 => fragments::BREAKS,
+            18 => fragments::CONTROLS,
+            19..=20 => fragments::SPECIAL,
+            21..=22 => fragments::MARKUP,
+            _ => {
+                let character = self.draft.dice.character();
+                return self.draft.print(character);
+            }
         };
-        for _ in 0..depth {
-            self.text("{")?;
-        }
-        for _ in 0..depth {
-            self.text("}")?;
+        self.draft.pick(alphabet)
+    }
+
+    fn dressings(&mut self, most: usize) -> Result<(), AllocError> {
+        for _ in 0..self.draft.dice.below(most) {
+            self.draft.pick(fragments::DRESSING)?;
         }
         Ok(())
     }
 
-    fn marker(&mut self) -> Result<(), AllocError> {
-        self.pick(&fragments::MARKERS)?;
-        self.pick(&fragments::NUMBERS)
-    }
-
-    // A part of decoration that mostly should not be there.
+    // A part of decoration that mostly should not be there. The ranges are the odds: a table of closures would show them no
+    // plainer, and each would have to be lent `self`.
     fn flaw(&mut self) -> Result<(), AllocError> {
-        match self.dice.below(14) {
+        match self.draft.dice.below(14) {
             0..=3 => self.marker(),
-            4..=6 => self.pick(&fragments::FAULTY),
-            7 => self.text("{"),
-            8 => self.text("}"),
-            9 => self.text("\\"),
-            10 => self.pick_bytes(&fragments::UNPRINTABLE),
+            4..=6 => self.draft.pick(fragments::FAULTY),
+            7 => self.draft.put("{"),
+            8 => self.draft.put("}"),
+            9 => self.draft.put("\\"),
+            10 => self.draft.pick(fragments::UNPRINTABLE),
             11 => {
-                let byte = self.dice.byte();
-                self.bytes.push(byte)?;
-                Ok(())
+                let byte = self.draft.dice.byte();
+                self.draft.put([byte])
             }
             _ => self.nested(),
         }
     }
 
-    fn dressings(&mut self, most: usize) -> Result<(), AllocError> {
-        let count = self.dice.below(most);
-        for _ in 0..count {
-            self.pick(&fragments::DRESSING)?;
-        }
-        Ok(())
+    fn marker(&mut self) -> Result<(), AllocError> {
+        self.draft.pick(fragments::MARKERS)?;
+        self.draft.pick(fragments::NUMBERS)
     }
-}
 
-// Whether a piece is made to fit just so.
-fn is_measured(dice: &mut Dice, outlook: Outlook) -> bool {
-    let often = if outlook.long { 6 } else { 16 };
-    outlook.fits < 40_000 && dice.once_in(often)
-}
-
-// How many parts a piece has at most: few, or in a long sitting sometimes more than a record may have.
-fn parts(dice: &mut Dice, outlook: Outlook, few: usize) -> usize {
-    let throw = if outlook.long { dice.below(12) } else { 0 };
-    match throw {
-        0..=6 => few,
-        7..=10 => 900,
-        _ => 8_000,
+    // A group or more, one within the other, as many as may be or one more.
+    fn nested(&mut self) -> Result<(), AllocError> {
+        let depth = match self.draft.dice.below(4) {
+            0 => 64,
+            1 => 63,
+            2 => 62,
+            _ => self.draft.dice.below(20),
+        };
+        self.draft.repeat(b'{', depth)?;
+        self.draft.repeat(b'}', depth)
     }
-}
-
-// A piece of markup or of text, which has a frame of some bytes around it.
-fn piece(
-    heap: Global,
-    dice: &mut Dice,
-    outlook: Outlook,
-    frame: usize,
-) -> Result<Vec<u8>, AllocError> {
-    let measured = is_measured(dice, outlook);
-    let broken = dice.once_in(12);
-    let most = parts(dice, outlook, 9);
-    let mut draft = Draft {
-        dice,
-        bytes: Vec::new(heap),
-    };
-    if measured {
-        draft.letters(outlook.fits, frame)?;
-        return Ok(draft.bytes);
-    }
-    draft.fragments(most)?;
-    if broken {
-        draft.pick_bytes(&fragments::BROKEN)?;
-        draft.fragments(3)?;
-    }
-    if draft.dice.once_in(40) {
-        let _ = draft.bytes.pop();
-    }
-    Ok(draft.bytes)
-}
-
-// Decoration, which has its frame too.
-fn dressing(heap: Global, dice: &mut Dice, outlook: Outlook) -> Result<Vec<u8>, AllocError> {
-    let measured = is_measured(dice, outlook);
-    let flaws = match dice.below(8) {
-        0..=3 => 0,
-        4..=6 => 1,
-        _ => 2,
-    };
-    let most = parts(dice, outlook, 6);
-    let mut draft = Draft {
-        dice,
-        bytes: Vec::new(heap),
-    };
-    if measured {
-        draft.letters(outlook.fits, 19)?;
-        return Ok(draft.bytes);
-    }
-    draft.dressings(most)?;
-    for _ in 0..flaws {
-        draft.flaw()?;
-        draft.dressings(4)?;
-    }
-    Ok(draft.bytes)
 }

@@ -1,19 +1,25 @@
 // A second writing, for comparison: an archive that grows, with nothing counted but its bytes.
-use crate::answers::Answer;
 use crate::decoration;
 use crate::generate::{Call, Outlook};
-use crate::page::Page;
 use crate::spell::spell;
 use crate::utf8::decode;
+use layers::Refusal;
 use records::Kind;
 use std::alloc::{AllocError, Global};
-use trials::{Refusal, Stop};
+use trials::{Page, Reason, Stop, answered};
 
 // What was typed into a record: its kind, and the pieces joined.
 #[derive(Drop)]
 pub struct Script {
     pub kind: Kind,
     pub content: Vec<u8>,
+}
+
+// A record that is open: where it begins, and what was typed into it so far.
+#[derive(Drop)]
+struct Opened {
+    begins: usize,
+    script: Script,
 }
 
 #[derive(Drop)]
@@ -23,11 +29,8 @@ pub struct Second<'a> {
     // How many bytes the archive may have.
     room: usize,
     pub archive: Vec<u8>,
-    // The kind of the open record, and where it begins.
-    pub open: Option<Kind>,
-    begins: usize,
-    // What was typed into the open record, and into those before.
-    typed: Vec<u8>,
+    open: Option<Opened>,
+    // What was typed into the records before.
     pub scripts: Vec<Script>,
 }
 
@@ -39,10 +42,13 @@ impl<'a> Second<'a> {
             room,
             archive: Vec::new(heap),
             open: None,
-            begins: 0,
-            typed: Vec::new(heap),
             scripts: Vec::new(heap),
         }
+    }
+
+    // The kind of the open record.
+    pub fn open(&self) -> Option<Kind> {
+        self.open.as_ref().map(|opened| opened.script.kind)
     }
 
     // How many bytes more the archive may have.
@@ -52,8 +58,8 @@ impl<'a> Second<'a> {
 
     // How many bytes more the record may have.
     fn rest(&self) -> usize {
-        let size = match self.open {
-            Some(_) => self.archive.len().saturating_sub(self.begins),
+        let size = match &self.open {
+            Some(opened) => self.archive.len().saturating_sub(opened.begins),
             None => 0,
         };
         32_767usize.saturating_sub(size)
@@ -61,22 +67,21 @@ impl<'a> Second<'a> {
 
     pub fn outlook(&self, long: bool) -> Outlook {
         Outlook {
-            open: self.open,
+            open: self.open(),
             fits: self.rest().min(self.space().saturating_sub(1)),
             long,
         }
     }
 
-    // Serves a call.
-    pub fn serve(&mut self, call: &Call) -> Result<Answer, AllocError> {
-        match self.bytes_of(call) {
+    // Serves a call, and tells how many bytes it put.
+    pub fn serve(&mut self, call: &Call) -> Result<Result<usize, Refusal>, AllocError> {
+        match answered(self.bytes_of(call))? {
             Ok(bytes) => {
                 self.keep(call)?;
                 self.archive.extend_from_slice(&bytes)?;
-                Ok(Answer::Accepted(bytes.len()))
+                Ok(Ok(bytes.len()))
             }
-            Err(Stop::Refused(refusal)) => Ok(Answer::Refused(refusal)),
-            Err(Stop::Memory) => Err(AllocError),
+            Err(refusal) => Ok(Err(refusal)),
         }
     }
 
@@ -85,11 +90,9 @@ impl<'a> Second<'a> {
         self.check_state(call)?;
         let bytes = match call {
             Call::Open(kind) => self.header(*kind)?,
-            Call::Markup(piece) => self.framed(
-                "{\\*\\htmltag ",
-                self.spelled(piece)?.as_bytes(),
-                "}",
-            )?,
+            Call::Markup(piece) => {
+                self.framed("{\\*\\htmltag ", self.spelled(piece)?.as_bytes(), "}")?
+            }
             Call::Text(piece) => self.framed("", self.spelled(piece)?.as_bytes(), "")?,
             Call::Dress(piece) => {
                 decoration::check(self.heap, piece)?;
@@ -102,28 +105,23 @@ impl<'a> Second<'a> {
     }
 
     fn check_state(&self, call: &Call) -> Result<(), Refusal> {
-        let number = match (call, self.open) {
-            (Call::Open(_), Some(_)) => 22,
-            (Call::Open(_), None) => return Ok(()),
-            (_, None) => 21,
-            (Call::Markup(_) | Call::Dress(_), Some(Kind::Text)) => 23,
-            _ => return Ok(()),
-        };
-        Err(Refusal::of_writer(number, 0))
+        match (call, self.open()) {
+            (Call::Open(_), Some(_)) => Err(Reason::AlreadyOpen.at(0)),
+            (Call::Open(_), None) => Ok(()),
+            (_, None) => Err(Reason::NoneOpen.at(0)),
+            (Call::Markup(_) | Call::Dress(_), Some(Kind::Text)) => { Err(Reason::TextOpen.at(0)) }
+            _ => Ok(()),
+        }
     }
 
     // A record never lacks the byte of its brace.
     fn check_room(&self, call: &Call, count: usize) -> Result<(), Refusal> {
-        if let Call::Finish = call {
-            return Ok(());
+        match call {
+            Call::Finish => Ok(()),
+            _ if count > self.rest() => Err(Reason::TooLongToWrite.at(0)),
+            _ if count >= self.space() => Err(Reason::NoSpace.at(0)),
+            _ => Ok(()),
         }
-        if count > self.rest() {
-            return Err(Refusal::of_writer(25, 0));
-        }
-        if count >= self.space() {
-            return Err(Refusal::of_writer(24, 0));
-        }
-        Ok(())
     }
 
     fn header(&self, kind: Kind) -> Result<Vec<u8>, AllocError> {
@@ -139,27 +137,32 @@ impl<'a> Second<'a> {
     }
 
     fn spelled(&self, piece: &[u8]) -> Result<String, Stop> {
-        let characters = decode(self.heap, piece)?;
-        Ok(spell(self.heap, &characters, self.page)?)
+        let text = decode(self.heap, piece)?;
+        Ok(spell(self.heap, &text, self.page)?)
     }
 
     fn framed(&self, front: &str, inner: &[u8], back: &str) -> Result<Vec<u8>, AllocError> {
-        let mut bytes = front.as_bytes().to_vec(self.heap)?;
-        bytes.extend_from_slice(inner)?;
-        bytes.extend_from_slice(back.as_bytes())?;
-        Ok(bytes)
+        [front.as_bytes(), inner, back.as_bytes()].concat(self.heap)
     }
 
     // Keeps what was typed, and what is open.
     fn keep(&mut self, call: &Call) -> Result<(), AllocError> {
         match call {
             Call::Open(kind) => {
-                self.open = Some(*kind);
-                self.begins = self.archive.len();
-                self.typed.clear();
+                let script = Script {
+                    kind: *kind,
+                    content: Vec::new(self.heap),
+                };
+                self.open = Some(Opened {
+                    begins: self.archive.len(),
+                    script,
+                });
                 Ok(())
             }
-            Call::Markup(piece) | Call::Text(piece) => self.typed.extend_from_slice(piece),
+            Call::Markup(piece) | Call::Text(piece) => match &mut self.open {
+                Some(opened) => opened.script.content.extend_from_slice(piece),
+                None => Ok(()),
+            },
             Call::Dress(_) => Ok(()),
             Call::Finish => self.close(),
         }
@@ -167,11 +170,9 @@ impl<'a> Second<'a> {
 
     // Puts the open record, if there is one, with the others.
     pub fn close(&mut self) -> Result<(), AllocError> {
-        if let Some(kind) = self.open {
-            let content = self.typed.as_slice().to_vec(self.heap)?;
-            self.scripts.push(Script { kind, content })?;
+        if let Some(opened) = self.open.take() {
+            self.scripts.push(opened.script)?;
         }
-        self.open = None;
         Ok(())
     }
 }

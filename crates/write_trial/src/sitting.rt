@@ -1,16 +1,17 @@
-// A sitting: calls that are served in both ways, and compared.
-use crate::answers::Answer;
-use crate::generate::{Call, next_call};
-use crate::page::Page;
+// Sittings: calls that are served in both ways, and compared.
+use crate::generate::next_call;
 use crate::second::{Script, Second};
 use crate::tally::Tally;
+use layers::{Fault, Refusal};
 use pages::CodePage;
 use reader::read;
-use records::{Kind, Records};
+use records::Records;
 use sinks::{BufferSink, CARD_SIZE, Card, CardSink, Sink, cards_for};
-use std::io;
-use trials::{Dice, Refusal};
-use writer::{State, Writer};
+use sittings::make;
+use std::alloc::{AllocError, Global};
+use std::{fmt, io};
+use trials::{Dice, Page};
+use writer::Writer;
 
 // Room for the content of any record: three bytes for each that reading takes.
 const ROOM: usize = 98_304;
@@ -22,69 +23,66 @@ pub struct Plan {
     pub long: bool,
 }
 
-fn serve<P: CodePage, S: Sink>(writer: &mut Writer<P, S>, call: &Call) -> Answer {
-    let told = match call {
-        Call::Open(kind) => writer.open(*kind),
-        Call::Markup(piece) => writer.markup(piece),
-        Call::Text(piece) => writer.text(piece),
-        Call::Dress(piece) => writer.dress(piece),
-        Call::Finish => writer.finish(),
-    };
-    match told {
-        Ok(count) => Answer::Accepted(count),
-        Err(fault) => Answer::Refused(Refusal {
-            number: fault.number(),
-            place: fault.place(),
-            layer: fault.layer().name(),
-        }),
+impl Plan {
+    // A few calls, with little space or more than enough.
+    pub fn short(dice: &mut Dice) -> Plan {
+        let space = match dice.below(12) {
+            0 => dice.below(110),
+            1..=3 => dice.below(300) + 80,
+            4..=6 => dice.below(1_000) + 80,
+            _ => dice.below(8_000) + 80,
+        };
+        Plan {
+            space,
+            calls: dice.below(24),
+            long: false,
+        }
+    }
+
+    // Many calls with long pieces.
+    pub fn long(dice: &mut Dice) -> Plan {
+        Plan {
+            space: dice.below(70_000) + 30_000,
+            calls: dice.below(40) + 20,
+            long: true,
+        }
+    }
+}
+
+// An answer in print.
+#[derive(Clone, Copy)]
+struct Answer(Result<usize, Refusal>);
+
+impl fmt::Display for Answer {
+    fn fmt<W: fmt::Write>(&self, f: &mut fmt::Formatter<W>) -> fmt::Result {
+        match self.0 {
+            Ok(count) => write!(f, "accepted {count}"),
+            Err(refusal) => write!(f, "{refusal}"),
+        }
     }
 }
 
 // Whether both have come to the same: what is open, how much is held, and how much space is left.
 fn is_level<P: CodePage, S: Sink>(writer: &Writer<P, S>, second: &Second<'_>) -> bool {
-    let open = match writer.state() {
-        State::NoneOpen => None,
-        State::HtmlOpen => Some(Kind::Html),
-        State::TextOpen => Some(Kind::Text),
-    };
-    let count = writer.sink().count();
-    let space = writer.sink().space();
-    open == second.open && count == second.archive.len() && space == second.space()
+    let sink = writer.sink();
+    writer.state() == second.open()
+        && sink.count() == second.archive.len()
+        && sink.space() == second.space()
 }
 
-fn print_call(rt: &HostRuntime, call: &Call) -> io::Result<()> {
-    match call {
-        Call::Open(Kind::Html) => println!(rt; "open html"),
-        Call::Open(Kind::Text) => println!(rt; "open text"),
-        Call::Markup(piece) => println!(rt; "markup {piece:?}"),
-        Call::Text(piece) => println!(rt; "text {piece:?}"),
-        Call::Dress(piece) => println!(rt; "dress {piece:?}"),
-        Call::Finish => println!(rt; "finish"),
-    }
-}
-
-// Serves each call in both ways.
-fn sit<P: CodePage, S: Sink>(
-    rt: &HostRuntime,
-    dice: &mut Dice,
-    writer: &mut Writer<P, S>,
-    second: &mut Second<'_>,
-    plan: Plan,
-    tally: &mut Tally,
-) -> io::Result<()> {
-    for _ in 0..plan.calls {
-        let call = next_call(rt.alloc(), dice, second.outlook(plan.long))?;
-        let expected = second.serve(&call)?;
-        let told = serve(writer, &call);
-        tally.count(told);
-        let same = told == expected && is_level(writer, second);
-        if !same && tally.note_difference() {
-            print_call(rt, &call)?;
-            println!(rt; "written: {told}, expected: {expected}")?;
-        }
-    }
-    tally.sittings = tally.sittings.saturating_add(1);
-    Ok(())
+// How many records at the front of the archive are read as the scripts.
+fn count_read<P: CodePage>(
+    heap: Global,
+    page: &P,
+    archive: &[u8],
+    scripts: &[Script],
+) -> Result<usize, AllocError> {
+    let mut content = vec![in heap; 0u8; ROOM]?;
+    let read = Records::new(archive).zip(scripts).take_while(|(step, script)| match step {
+        Ok(record) => is_read(record.bytes, page, script, &mut content),
+        Err(_) => false,
+    });
+    Ok(read.count())
 }
 
 // Whether a record is read as what was typed into it.
@@ -98,94 +96,78 @@ fn is_read<P: CodePage>(bytes: &[u8], page: &P, script: &Script, content: &mut [
     }
 }
 
-// How many records at the front of the archive are read as the scripts.
-fn count_read<P: CodePage>(
-    rt: &HostRuntime,
-    page: &P,
-    archive: &[u8],
-    scripts: &[Script],
-) -> io::Result<usize> {
-    let mut content = vec![in rt.alloc(); 0u8; ROOM]?;
-    let mut count = 0usize;
-    for step in Records::new(archive) {
-        match (step, scripts.get(count)) {
-            (Ok(record), Some(script)) => {
-                if !is_read(record.bytes, page, script, &mut content) {
-                    return Ok(count);
-                }
-                count = count.saturating_add(1);
-            }
-            _ => return Ok(0),
+// A trial of writing in one page.
+#[derive(Drop)]
+pub struct Trial<'a, R, P: CodePage + Copy> {
+    pub rt: &'a R,
+    pub dice: &'a mut Dice,
+    pub tally: &'a mut Tally,
+    pub page: P,
+    pub spread: &'a Page,
+}
+
+impl<'a, R: Print + AllocGlobal, P: CodePage + Copy> Trial<'a, R, P> {
+    // A sitting that goes into a buffer, and one that goes onto cards, of which there are as many as the space takes. Either
+    // sink is emptied here, where its own type is known.
+    pub fn try_plan(&mut self, plan: Plan) -> io::Result<()> {
+        let heap = self.rt.alloc();
+        let mut room = vec![in heap; 0xAAu8; plan.space]?;
+        let (buffer, second) = self.sit(BufferSink::new(&mut room), plan)?;
+        self.compare(buffer.into_written(), second)?;
+        let used = Card {
+            count: 200,
+            data: [7; CARD_SIZE],
+        };
+        let mut cards = vec![in heap; used; cards_for(plan.space)]?;
+        let (pile, second) = self.sit(CardSink::new(&mut cards), plan)?;
+        let mut written = vec![in heap; 0u8; pile.count()]?;
+        if pile.unload(&mut written).is_err() && self.tally.calls.note_difference() {
+            println!(self.rt; "the cards could not be unloaded")?;
         }
+        self.compare(&written, second)
     }
-    Ok(count)
-}
 
-// Compares the archives, takes the written one apart, and reads each record back. One that is open is closed for that.
-fn compare<P: CodePage>(
-    rt: &HostRuntime,
-    page: &P,
-    written: &[u8],
-    second: &mut Second<'_>,
-    tally: &mut Tally,
-) -> io::Result<()> {
-    if written != second.archive.as_slice() && tally.note_difference() {
-        println!(rt; "the archives differ")?;
+    // Serves each call in both ways.
+    fn sit<S: Sink + Drop>(&mut self, sink: S, plan: Plan) -> io::Result<(S, Second<'a>)> {
+        let heap = self.rt.alloc();
+        let mut second = Second::new(heap, self.spread, sink.space());
+        let mut writer = Writer::new(self.page, sink);
+        for _ in 0..plan.calls {
+            let call = next_call(heap, self.dice, second.outlook(plan.long))?;
+            let expected = second.serve(&call)?;
+            let told = make(&mut writer, call.lent()).map_err(|fault| fault.refusal());
+            self.tally.calls.count(told.map(|_| "accepted"))?;
+            let same = told == expected && is_level(&writer, &second);
+            if !same && self.tally.calls.note_difference() {
+                let told = Answer(told);
+                let expected = Answer(expected);
+                println!(self.rt; "{call}")?;
+                println!(self.rt; "written: {told}, expected: {expected}")?;
+            }
+        }
+        self.tally.sittings = self.tally.sittings.saturating_add(1);
+        Ok((writer.into_sink(), second))
     }
-    let mut archive = written.to_vec(rt.alloc())?;
-    if second.open.is_some() {
-        archive.push(b'}')?;
-        second.close()?;
-    }
-    let read = count_read(rt, page, &archive, &second.scripts)?;
-    let count = second.scripts.len();
-    if read != count && tally.note_difference() {
-        println!(rt; "of {count} records only {read} are read back")?;
-    }
-    let more = u32::try_from(read).unwrap_or(0);
-    tally.records = tally.records.saturating_add(more);
-    Ok(())
-}
 
-// A sitting that goes into a buffer.
-pub fn sit_at_buffer<P: CodePage + Copy>(
-    rt: &HostRuntime,
-    dice: &mut Dice,
-    page: P,
-    spread: &Page,
-    plan: Plan,
-    tally: &mut Tally,
-) -> io::Result<()> {
-    let mut room = vec![in rt.alloc(); 0xAAu8; plan.space]?;
-    let mut second = Second::new(rt.alloc(), spread, plan.space);
-    let mut writer = Writer::new(page, BufferSink::new(&mut room));
-    sit(rt, dice, &mut writer, &mut second, plan, tally)?;
-    let written = writer.into_sink().into_written();
-    compare(rt, &page, written, &mut second, tally)
-}
-
-// A sitting that goes onto cards, of which there are as many as the space takes.
-pub fn sit_at_cards<P: CodePage + Copy>(
-    rt: &HostRuntime,
-    dice: &mut Dice,
-    page: P,
-    spread: &Page,
-    plan: Plan,
-    tally: &mut Tally,
-) -> io::Result<()> {
-    let used = Card {
-        count: 200,
-        data: [7; CARD_SIZE],
-    };
-    let count = cards_for(plan.space);
-    let mut cards = vec![in rt.alloc(); used; count]?;
-    let mut second = Second::new(rt.alloc(), spread, count.saturating_mul(CARD_SIZE));
-    let mut writer = Writer::new(page, CardSink::new(&mut cards));
-    sit(rt, dice, &mut writer, &mut second, plan, tally)?;
-    let pile = writer.into_sink();
-    let mut written = vec![in rt.alloc(); 0u8; pile.count()]?;
-    if pile.unload(&mut written).is_err() && tally.note_difference() {
-        println!(rt; "the cards could not be unloaded")?;
+    // Compares the archives, takes the written one apart, and reads each record back. One that is open is closed for that.
+    fn compare(&mut self, written: &[u8], mut second: Second<'a>) -> io::Result<()> {
+        let heap = self.rt.alloc();
+        let mut archive = written.to_vec(heap)?;
+        if archive != second.archive && self.tally.calls.note_difference() {
+            println!(self.rt; "the archives differ")?;
+        }
+        if second.open().is_some() {
+            archive.push(b'}')?;
+            second.close()?;
+        }
+        let count = second.scripts.len();
+        let read = count_read(heap, &self.page, &archive, &second.scripts)?;
+        let more = Records::new(&archive).nth(count).is_some();
+        if (read != count || more) && self.tally.calls.note_difference() {
+            println!(self.rt; "of {count} records only {read} are read back")?;
+        }
+        let read = u32::try_from(read).unwrap_or(0);
+        self.tally.records = self.tally.records.saturating_add(read);
+        Ok(())
     }
-    compare(rt, &page, &written, &mut second, tally)
 }

@@ -1,63 +1,40 @@
-// The spelling of characters, as text that grows.
-use crate::page::Page;
+// The spelling of a text, as text that grows.
 use std::alloc::{AllocError, Global};
+use std::fmt::Write;
+use trials::Page;
 
 // The spelling of a piece: a CR with an LF after it is one line break.
-pub fn spell(heap: Global, characters: &[char], page: &Page) -> Result<String, AllocError> {
-    let mut text = String::new(heap);
-    let mut before = None;
-    for (index, character) in characters.iter().enumerate() {
-        let after = characters.get(index.saturating_add(1)).copied();
-        match (before, *character, after) {
-            (_, '\r', Some('\n')) => text.push_str("\\par ")?,
-            (Some('\r'), '\n', _) => {}
-            _ => push_character(heap, &mut text, *character, page)?,
+pub fn spell(heap: Global, text: &str, page: &Page) -> Result<String, AllocError> {
+    let mut spelled = String::new(heap);
+    for (index, line) in text.split("\r\n").enumerate() {
+        if index > 0 {
+            spelled.push_str("\\par ")?;
         }
-        before = Some(*character);
-    }
-    Ok(text)
-}
-
-fn push_character(
-    heap: Global,
-    text: &mut String,
-    character: char,
-    page: &Page,
-) -> Result<(), AllocError> {
-    if character == '\t' {
-        return text.push_str("\\tab ");
-    }
-    if character == '{' || character == '}' || character == '\\' {
-        text.push('\\')?;
-    }
-    if character == ' ' || character.is_ascii_graphic() {
-        text.push(character)?;
-        return Ok(());
-    }
-    if let Some(byte) = page.byte(character) {
-        return text.push_str(format!(in heap; "\\'{byte:02x}")?.as_str());
-    }
-    push_units(heap, text, u32::from(character))
-}
-
-// One unit, or two halves: the upper ten bits, less the 64 that are always there, and the lower ten.
-fn push_units(heap: Global, text: &mut String, code: u32) -> Result<(), AllocError> {
-    match u16::try_from(code) {
-        Ok(unit) => push_unit(heap, text, unit),
-        Err(_) => {
-            push_unit(heap, text, half(0xD800, (code >> 10).saturating_sub(64)))?;
-            push_unit(heap, text, half(0xDC00, code))
+        for character in line.chars() {
+            push_character(&mut spelled, character, page)?;
         }
     }
+    Ok(spelled)
 }
 
-fn half(mark: u16, bits: u32) -> u16 {
-    let [low, high, _, _] = (bits & 0x3FF).to_le_bytes();
-    mark | u16::from_le_bytes([low, high])
+fn push_character(spelled: &mut String, character: char, page: &Page) -> Result<(), AllocError> {
+    match character {
+        '\t' => spelled.push_str("\\tab "),
+        '{' | '}' | '\\' => write!(spelled, "\\{character}"),
+        ' '..='~' => spelled.push(character),
+        _ => match page.byte(character) {
+            Some(byte) => write!(spelled, "\\'{byte:02x}"),
+            None => push_units(spelled, character),
+        },
+    }
 }
 
-// A unit as a number with a sign.
-fn push_unit(heap: Global, text: &mut String, unit: u16) -> Result<(), AllocError> {
-    let number = i16::from_le_bytes(unit.to_le_bytes());
-    text.push_str(format!(in heap; "\\u{number}?")?.as_str())
+// One unit or two halves, each as a number with a sign.
+fn push_units(spelled: &mut String, character: char) -> Result<(), AllocError> {
+    let mut room = [0; 2];
+    for unit in character.encode_utf16(&mut room) {
+        let number = unit.cast_signed();
+        write!(spelled, "\\u{number}?")?;
+    }
+    Ok(())
 }

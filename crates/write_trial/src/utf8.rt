@@ -1,6 +1,8 @@
-// The characters of UTF-8, byte by byte: a sequence is judged by the number that it gives.
+// The characters of UTF-8, byte by byte: a sequence is judged by the number that it gives. `from_utf8` is what the library
+// calls, so it would be compared with itself.
+use layers::Refusal;
 use std::alloc::Global;
-use trials::{Refusal, Stop};
+use trials::{Reason, Stop};
 
 // A sequence that has begun.
 #[derive(Clone, Copy)]
@@ -15,16 +17,16 @@ struct Sequence {
 
 impl Sequence {
     // What a first byte begins; an ASCII byte begins a sequence that is whole.
-    fn begin(place: usize, byte: u8) -> Result<Sequence, Refusal> {
+    fn begin(begins: usize, byte: u8) -> Result<Sequence, Refusal> {
         let (left, code, least) = match byte {
             0..=0x7F => (0, byte, 0),
             0xC0..=0xDF => (1, byte & 0x1F, 0x80),
             0xE0..=0xEF => (2, byte & 0x0F, 0x800),
             0xF0..=0xF7 => (3, byte & 0x07, 0x10000),
-            _ => return Err(Refusal::of_writer(13, place)),
+            _ => return Err(Reason::NotUtf8.at(begins)),
         };
         Ok(Sequence {
-            begins: place,
+            begins,
             left,
             code: u32::from(code),
             least,
@@ -32,49 +34,46 @@ impl Sequence {
     }
 
     // The sequence with one byte more.
-    fn go_on(&self, byte: u8) -> Result<Sequence, Refusal> {
+    fn go_on(self, byte: u8) -> Result<Sequence, Refusal> {
         if byte & 0xC0 != 0x80 {
             return Err(self.refusal());
         }
         Ok(Sequence {
-            begins: self.begins,
             left: self.left.saturating_sub(1),
             code: self.code.wrapping_mul(64) | u32::from(byte & 0x3F),
-            least: self.least,
+            ..self
         })
     }
 
-    fn refusal(&self) -> Refusal {
-        Refusal::of_writer(13, self.begins)
+    fn refusal(self) -> Refusal {
+        Reason::NotUtf8.at(self.begins)
     }
 
     // The character of a whole sequence.
-    fn character(&self) -> Result<char, Refusal> {
-        match char::from_u32(self.code) {
-            Some(character) if self.code >= self.least => Ok(character),
-            _ => Err(self.refusal()),
-        }
+    fn character(self) -> Result<char, Refusal> {
+        char::from_u32(self.code)
+            .filter(|_| self.code >= self.least)
+            .ok_or(self.refusal())
     }
 }
 
-// The characters of bytes, or a refusal at the first that begins no sequence.
-pub fn decode(heap: Global, bytes: &[u8]) -> Result<Vec<char>, Stop> {
-    let mut characters = Vec::new(heap);
+// The text of bytes, or a refusal at the first that begins no sequence.
+pub fn decode(heap: Global, bytes: &[u8]) -> Result<String, Stop> {
+    let mut text = String::new(heap);
     let mut begun: Option<Sequence> = None;
     for (place, byte) in bytes.iter().enumerate() {
-        let sequence = match begun {
+        let sequence = match begun.take() {
             Some(sequence) => sequence.go_on(*byte)?,
             None => Sequence::begin(place, *byte)?,
         };
         if sequence.left == 0 {
-            characters.push(sequence.character()?)?;
-            begun = None;
+            text.push(sequence.character()?)?;
         } else {
             begun = Some(sequence);
         }
     }
     match begun {
-        Some(sequence) => Err(Stop::Refused(sequence.refusal())),
-        None => Ok(characters),
+        Some(sequence) => Err(sequence.refusal().into()),
+        None => Ok(text),
     }
 }

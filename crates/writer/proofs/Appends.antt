@@ -1,5 +1,5 @@
 -- Bytes that are appended one after the other.
-use Rattle.std.proofs.Common.{◌≡◌, ℕ, ◌+◌, List, ◌++◌, length, ap, ◌∙◌, append_assoc, arith, length-append}
+use Rattle.std.proofs.Common.{◌≡◌, ℕ, List, ◌++◌, ap, ◌∙◌, append_assoc}
 
 -- Two parts, each appended to what was there before it.
 pub two_parts : (start x y one two : List ℕ) → one ≡ start ++ x → two ≡ one ++ y → two ≡ start ++ (x ++ y)
@@ -12,7 +12,3 @@ three_parts start x y z one two three e f g = two_parts start x (y ++ z) one thr
 -- Five parts.
 pub five_parts : (start a b c d e one two three four five : List ℕ) → one ≡ start ++ a → two ≡ one ++ b → three ≡ two ++ c → four ≡ three ++ d → five ≡ four ++ e → five ≡ start ++ (a ++ (b ++ (c ++ (d ++ e))))
 five_parts start a b c d e one two three four five p q r s t = two_parts start a (b ++ (c ++ (d ++ e))) one five p (two_parts one b (c ++ (d ++ e)) two five q (three_parts two c d e three four five r s t))
-
--- How long five parts are.
-pub five_long : (a b c d e : List ℕ) → length (a ++ (b ++ (c ++ (d ++ e)))) ≡ length a + length b + length c + length d + length e
-five_long a b c d e = omega (arith, length-append a (b ++ (c ++ (d ++ e))), length-append b (c ++ (d ++ e)), length-append c (d ++ e), length-append d e)

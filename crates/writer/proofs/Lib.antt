@@ -1,9 +1,6 @@
 pub mod Appends
-pub mod Decimals
 pub mod Spellings
 pub mod Sound
-pub mod Keys
-pub mod Puts
-pub mod Headers
+pub mod Presses
 pub mod Answered
 pub mod Decorations

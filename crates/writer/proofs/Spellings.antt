@@ -1,8 +1,8 @@
 -- How single characters are spelled, by cases.
-use Rattle.std.proofs.Common.{◌≡◌, ℕ, ◌+◌, ◌-◌, ◌/◌, ◌%◌, ◌<◌, ◌≤◌, ltb, ◌⊎◌, [], ◌∷◌, ◌++◌, Option, sym, refl, ap, ◌∙◌, subst, ⊎_elim, append-nil}
+use Rattle.std.proofs.Common.{◌≡◌, ℕ, ◌+◌, ◌-◌, ◌/◌, ◌%◌, ◌<◌, ◌≤◌, ltb, ◌++◌, ap, ◌∙◌, append-nil}
 use Rattle.std.specs.List.{flat_map}
 use Rattle.std.proofs.lemmas.Bool.{cond-true, cond-false, lt-ltb, le-ltb}
-use Rattle.writer.specs.Spelling.{spelled_unit, units, spelled}
+use Rattle.writer.specs.Spelling.{spelled_unit, units}
 
 -- A character of one unit, and one of two.
 pub one_unit : (c : ℕ) → c < 0x10000 → flat_map spelled_unit (units c) ≡ spelled_unit c
@@ -12,9 +12,3 @@ pub two_units : (c : ℕ) → 0x10000 ≤ c → flat_map spelled_unit (units c) 
 two_units c h =
     ap (flat_map spelled_unit) (cond-false (ltb c 0x10000) _ _ (le-ltb c 0x10000 h))
     ∙ ap (λ l. spelled_unit (0xD800 + (c - 0x10000) / 0x400) ++ l) (append-nil (spelled_unit (0xDC00 + (c - 0x10000) % 0x400)))
-
--- A brace or a backslash.
-pub escaped : (encoded : ℕ → Option ℕ) (c : ℕ) → (c ≡ 92) ⊎ ((c ≡ 123) ⊎ (c ≡ 125)) → spelled encoded c ≡ 92 ∷ c ∷ []
-escaped encoded c =
-    let P : ℕ → Type 0 = λ x. spelled encoded x ≡ 92 ∷ x ∷ [] in
-    ⊎_elim (λ e. subst P (sym e) refl) (⊎_elim (λ e. subst P (sym e) refl) (λ e. subst P (sym e) refl))

@@ -1,13 +1,11 @@
 -- What each writing call answers and leaves, by what it meets: the writer's state, and the bytes and the space of its sink.
-use Rattle.std.specs.Prelude.{ℕ, ◌+◌, ◌-◌, cond, List, [], ◌∷◌, ◌++◌, length, Ok, Err, Option, Result, nat_lt}
+use Rattle.std.specs.Prelude.{ℕ, ◌+◌, ◌-◌, cond, List, [], ◌∷◌, ◌++◌, length, Some, None, Ok, Err, Option, Result, nat_lt}
 use Rattle.records.specs.declared.kinds.Kind.{Kind}
 use Rattle.writer.specs.declared.faults.WriterFault.{WriterFault}
 use Rattle.writer.specs.declared.faults.WriterFault.TheVariants as fault
-use Rattle.writer.specs.declared.state.State.{State}
-use Rattle.writer.specs.declared.state.State.TheVariants.{NoneOpen}
 use Rattle.writer.specs.declared.state.CallKind.{CallKind}
 use Rattle.writer.specs.declared.state.CallKind.TheVariants as call
-use Rattle.writer.specs.States.{allowed, open_as}
+use Rattle.writer.specs.States.{allowed}
 use Rattle.writer.specs.Pieces.{typed}
 use Rattle.writer.specs.Spelling.{spelled_all}
 use Rattle.writer.specs.Header.{header, tagged, dressed}
@@ -21,9 +19,9 @@ pub data Ask : Type 0 where
   dress : List ℕ → Ask
   finish : Ask
 
--- What a call meets, and what it leaves: the state, how many bytes the open record has, and the sink's bytes and space.
+-- What a call meets, and what it leaves: the kind of the open record, if one is open, how many bytes the open record has, and the sink's bytes and space.
 pub record Moment : Type 0 where
-  pub state : State
+  pub state : Option Kind
   pub size : ℕ
   pub held : List ℕ
   pub space : ℕ
@@ -69,13 +67,17 @@ answer page encoded m a =
     and_then (to_put page encoded a) (λ bs.
     and_then (fits m a (length bs)) (λ _. Ok bs)))
 
+-- The open record and the sink have these bytes more.
+abbrev pub added : Moment → List ℕ → Moment
+added m bs = record { state = m.state; size = m.size + length bs; held = m.held ++ bs; space = m.space - length bs }
+
 -- What an accepted call leaves, by the bytes that it put.
 abbrev pub after : Moment → Ask → List ℕ → Moment
-after m (begin k) bs = record { state = open_as k; size = length bs; held = m.held ++ bs; space = m.space - length bs }
-after m (markup ps) bs = record { state = m.state; size = m.size + length bs; held = m.held ++ bs; space = m.space - length bs }
-after m (text ps) bs = record { state = m.state; size = m.size + length bs; held = m.held ++ bs; space = m.space - length bs }
-after m (dress ps) bs = record { state = m.state; size = m.size + length bs; held = m.held ++ bs; space = m.space - length bs }
-after m finish bs = record { state = NoneOpen; size = 0; held = m.held ++ bs; space = m.space - length bs }
+after m (begin k) bs = record { state = Some k; size = length bs; held = m.held ++ bs; space = m.space - length bs }
+after m (markup ps) bs = added m bs
+after m (text ps) bs = added m bs
+after m (dress ps) bs = added m bs
+after m finish bs = record { state = None; size = 0; held = m.held ++ bs; space = m.space - length bs }
 
 -- What a call leaves: a refused one leaves everything as it was.
 abbrev pub left_by : Moment → Ask → Result (List ℕ) WriterFault → Moment

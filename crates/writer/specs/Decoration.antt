@@ -1,5 +1,5 @@
 -- What decoration may be: printable ASCII, sound and balanced groups, and no word of the encapsulation itself.
-use Rattle.std.specs.Prelude.{ℕ, ◌+◌, Bool, false, cond, ◌&&◌, ◌||◌, List, [], ◌∷◌, length, Ok, Err, codes, Result, nat_le, nat_lt}
+use Rattle.std.specs.Prelude.{◌≡◌, ℕ, ◌+◌, Bool, false, cond, ◌&&◌, ◌||◌, List, [], ◌∷◌, length, Ok, Err, codes, Result, MatchResult, nat_le, nat_lt}
 use Rattle.std.specs.Str.{bytes_eq}
 use Rattle.tokens.specs.declared.faults.TokenFault.{TokenFault}
 use Rattle.tokens.specs.Names.{name_at}
@@ -44,6 +44,10 @@ passed (word name v) p ps later = unless_marker name p (later ps)
 passed (hex b) p ps later = later ps
 passed (symbol b) p ps later = later ps
 passed (text b) p ps later = later ps
+
+-- What a token leaves open, or why it is refused, whatever comes after it.
+abbrev pub Passes : Tok → ℕ → List ℕ → Result (Unit {0}) WriterFault → List ℕ → Type 0
+Passes t p ps r qs = (later : List ℕ → Result (Unit {0}) WriterFault) → MatchResult r (λ _. passed t p ps later ≡ later qs) (λ f. passed t p ps later ≡ Err f)
 
 -- A faulty token; a word that is both faulty and a marker counts as a marker.
 abbrev pub faulty : List ℕ → TokenFault → Result (Unit {0}) WriterFault

@@ -1,26 +1,29 @@
--- How the code's spellings and texts show in the definitions.
-use Rattle.std.specs.Prelude.{◌≡◌, ℕ, List, take, Some, None, Ok, Err, Option, Result}
+-- How the code's keys, texts and pieces show in the definitions.
+use Rattle.std.specs.Prelude.{ℕ, List, Ok, Err, Option, Result}
 use Rattle.std.specs.Borrow.{Bor}
 use Rattle.std.specs.Str.{chars}
-use Rattle.tokens.specs.declared.faults.TokenFault.{TokenFault}
-use Rattle.tokens.specs.declared.lexer.Found.{Found}
-use Rattle.tokens.specs.Shown.{shown as shown_token}
-use Rattle.tokens.specs.Tokens.{Item, good, bad}
 use Rattle.writer.specs.declared.faults.WriterFault.{WriterFault}
-use Rattle.writer.specs.declared.spelling.Spelling.{Spelling}
-use Rattle.writer.specs.Decoration.{faulty}
+use Rattle.writer.specs.declared.keys.Key.{Key as TypedKey}
+use Rattle.writer.specs.declared.keys.Key.TheVariants.{Break, Character}
+use Rattle.writer.specs.declared.keys.Keys.{Keys}
+use Rattle.writer.specs.declared.piece.Piece.{Piece}
+use Rattle.writer.specs.declared.piece.Piece.TheVariants.{Typed, Decoration}
+use Rattle.writer.specs.Spelling.{Key, break, key, keys, spelled_all}
 
--- The bytes of a spelling.
-abbrev pub shown : Spelling → List ℕ
-shown s = take s.len s.bytes
+abbrev pub shown_key : TypedKey → Key
+shown_key Break = break
+shown_key (Character c) = key c
+
+-- The keys that are still to come.
+abbrev pub keys_left : Keys → List Key
+keys_left ks = keys (chars ks.rest.now)
 
 -- A text by its characters.
 abbrev pub shown_text : Result (Bor (List ℕ)) WriterFault → Result (List ℕ) WriterFault
 shown_text (Ok s) = Ok (chars s.now)
 shown_text (Err f) = Err f
 
--- The next token of decoration, or the fault of one: the item that comes.
-abbrev pub Lexed : List ℕ → Result (Option Found) WriterFault → Option Item → Type 0
-Lexed bs (Ok None) o = None ≡ o
-Lexed bs (Ok (Some f)) o = Some (good (shown_token f.token) f.place f.end) ≡ o
-Lexed bs (Err e) o = (f : TokenFault) × (Some (bad f) ≡ o) × (Err e ≡ faulty bs f)
+-- The bytes of a piece in a record.
+abbrev pub shown_piece : (ℕ → Option ℕ) → Piece → List ℕ
+shown_piece encoded (Typed text) = spelled_all encoded (chars text.now)
+shown_piece encoded (Decoration bytes) = bytes.now

@@ -58,13 +58,3 @@ spelled_key encoded (key c) = spelled encoded c
 -- The characters of a piece, one after the other.
 abbrev pub spelled_all : (ℕ → Option ℕ) → List ℕ → List ℕ
 spelled_all encoded cs = flat_map (spelled_key encoded) (keys cs)
-
--- What is put when a character comes, after a CR that waits for its LF or none.
-abbrev pub onward : (ℕ → Option ℕ) → Bool → ℕ → List ℕ
-onward encoded waiting c =
-    cond (waiting && c == 10) (codes "\\par ")
-    (cond waiting (spelled encoded 13) [] ++ cond (c == 13) [] (spelled encoded c))
-
--- What is put when no character comes any more.
-abbrev pub at_end : (ℕ → Option ℕ) → Bool → List ℕ
-at_end encoded waiting = cond waiting (spelled encoded 13) []

@@ -1,17 +1,19 @@
 // The check of decoration: what stands in a record and is no part of its content.
-ghost use Rattle.std.specs.Prelude.{◌≡◌, ◌<◌, ◌≤◌, [], map, length, drop, IfSome, IfOk};
-ghost use Rattle.tokens.specs.Tokens.{items, next};
-ghost use Rattle.writer.specs.Decoration.{is_printable, printable, markers, among, sound, decoration};
-ghost use Rattle.writer.specs.Shown.{Lexed};
+ghost use Rattle.std.specs.Prelude.{◌≡◌, [], not, length, Err};
+ghost use Rattle.std.specs.List.{position};
+ghost use Rattle.tokens.specs.Tokens.{items};
+ghost use Rattle.tokens.specs.Shown.{shown};
+ghost use Rattle.groups.specs.Stack.{held};
+ghost use Rattle.writer.specs.Decoration.{is_printable, markers, among, faulty, Passes, sound, decoration};
 
 use crate::faults::WriterFault;
 use groups::{GroupFault, Stack};
-use tokens::{Found, Token, name_at, next_token};
+use tokens::{Token, TokenFault, Tokens, name_at};
 
 // How many groups decoration may open: one less than a record, whose own group is around them.
 const MAX_GROUPS: usize = 63;
 
-// The words that only the encapsulation itself may have, and `\\bin`, whose bytes could hide what follows.
+// The words that only the encapsulation itself may have, and `\bin`, whose bytes could hide what follows.
 const MARKERS: [&[u8]; 7] = [
     b"htmlrtf",
     b"htmltag",
@@ -26,62 +28,34 @@ const MARKERS: [&[u8]; 7] = [
 pub fn check_decoration(bytes: &[u8]) -> Result<(), WriterFault>
     ensures { result ≡ decoration bytes.now }
 {
-    check_printable(bytes)?;
-    check_sound(bytes)
-}
-
-fn is_printable(byte: u8) -> bool
-    ensures { result ≡ is_printable byte }
-{
-    matches!(byte, 0x20..=0x7E)
-}
-
-// Each byte is from 0x20 to 0x7E.
-fn check_printable(bytes: &[u8]) -> Result<(), WriterFault>
-    ensures { result ≡ printable 0 bytes.now }
-{
-    let mut at = 0;
-    while at < bytes.len() {
-        if !is_printable(bytes[at]) {
-            return Err(WriterFault::NotPrintable(at));
-        }
-        at += 1;
+    match unprintable(bytes) {
+        Some(at) => Err(WriterFault::NotPrintable(at)),
+        None => check_sound(bytes),
     }
-    Ok(())
 }
 
-fn is_among(name: &[u8], words: &[&[u8]]) -> bool
-    ensures { result ≡ among name.now (map (λ x. x.now) words.now) }
+// The first byte that is not from 0x20 to 0x7E.
+fn unprintable(bytes: &[u8]) -> Option<usize>
+    ensures { result ≡ position (λ b. not (is_printable b)) bytes.now }
 {
-    for word in words {
-        if name == *word {
-            return true;
-        }
-    }
-    false
+    bytes.iter().position(|byte| !matches!(byte, 0x20..=0x7E))
 }
 
 // Whether decoration may not have this word.
 fn is_marker(name: &[u8]) -> bool
     ensures { result ≡ among name.now markers }
 {
-    is_among(name, &MARKERS)
+    MARKERS.contains(&name)
 }
 
-// The next token. A word that is both a marker and faulty counts as a marker.
-fn token_of<'a>(bytes: &'a [u8], at: usize) -> Result<Option<Found<'a>>, WriterFault>
-    ensures value { Lexed bytes.now result (next at (drop at bytes.now)) }
-    ensures bound { IfOk result (λ o. IfSome o (λ f. (at ≤ f.place) × (f.place < f.end) × (f.end ≤ length bytes.now))) }
+// A word that is both a marker and faulty counts as a marker.
+fn fault_of(bytes: &[u8], fault: TokenFault) -> WriterFault
+    ensures { Err result ≡ faulty bytes.now fault }
 {
-    match next_token(bytes, at) {
-        Ok(found) => Ok(found),
-        Err(fault) => {
-            if is_marker(name_at(bytes, fault.place)) {
-                return Err(WriterFault::MarkerWord(fault.place));
-            }
-            Err(WriterFault::from(GroupFault::from(fault)))
-        }
+    if is_marker(name_at(bytes, fault.place)) {
+        return WriterFault::MarkerWord(fault.place);
     }
+    WriterFault::from(GroupFault::from(fault))
 }
 
 // The tokens are sound, the groups balanced, and no word is a marker.
@@ -90,28 +64,33 @@ fn check_sound(bytes: &[u8]) -> Result<(), WriterFault>
 {
     let mut room = [0; MAX_GROUPS];
     let mut stack = Stack::new(&mut room);
-    let mut at = 0;
-    while let Some(found) = token_of(bytes, at)? {
-        at = found.end;
-        match found.token {
-            Token::Open => {
-                stack.push(found.place)?;
-            }
-            Token::Close => {
-                if stack.pop().is_none() {
-                    return Err(WriterFault::Unbalanced(found.place));
-                }
-            }
-            Token::Word { name, .. } => {
-                if is_marker(name) {
-                    return Err(WriterFault::MarkerWord(found.place));
-                }
-            }
-            _ => {}
+    for step in Tokens::new(bytes) {
+        match step {
+            Ok(found) => pass(&mut stack, found.token, found.place)?,
+            Err(fault) => return Err(fault_of(bytes, fault)),
         }
     }
     match stack.top() {
         Some(place) => Err(WriterFault::Unbalanced(place)),
         None => Ok(()),
     }
+}
+
+// Passes a token at a place: it may open or close a group, and is no marker.
+fn pass(stack: &mut Stack<'_, usize>, token: Token<'_>, place: usize) -> Result<(), WriterFault>
+    requires { length stack.old.entries.now ≡ 63 }
+    ensures room { length stack.new.entries.now ≡ 63 }
+    ensures cases { Passes (shown token.entry) place (held stack.old.depth stack.old.entries.now) result (held stack.new.depth stack.new.entries.now) }
+{
+    match token {
+        Token::Open => stack.push(place)?,
+        Token::Close => {
+            stack.pop().ok_or(WriterFault::Unbalanced(place))?;
+        }
+        Token::Word { name, .. } if is_marker(name) => {
+            return Err(WriterFault::MarkerWord(place));
+        }
+        _ => {}
+    }
+    Ok(())
 }

@@ -4,7 +4,7 @@ ghost use Rattle.writer.specs.Faults.{number_of, place_of, layer_of};
 ghost use Rattle.writer.specs.declared.faults.WriterFault.TheVariants.{Group as ByGroup};
 
 use groups::GroupFault;
-use layers::Layer;
+use layers::{Fault, Layer};
 
 // A refusal of a writing call.
 #[derive(Clone, Copy, PartialEq, Eq, Debug)]
@@ -31,7 +31,7 @@ pub enum WriterFault {
     TooLong,
 }
 
-// Lets `?` pass a fault of the groups up.
+// Lets `?` pass a fault of the groups up. Written out, since contracts name the fault that comes of it.
 impl From<GroupFault> for WriterFault {
     ghost from_gives = { λ e r. r ≡ ByGroup e };
 
@@ -40,10 +40,14 @@ impl From<GroupFault> for WriterFault {
     }
 }
 
-impl WriterFault {
-    pub fn number(&self) -> u8
-        ensures { result ≡ number_of self.now }
-    {
+impl Fault for WriterFault {
+    ghost number = { number_of };
+
+    ghost place = { place_of };
+
+    ghost layer = { layer_of };
+
+    fn number(&self) -> u8 {
         match self {
             WriterFault::Group(f) => f.number(),
             WriterFault::Unbalanced(_) => 14,
@@ -58,9 +62,7 @@ impl WriterFault {
         }
     }
 
-    pub fn place(&self) -> usize
-        ensures { result ≡ place_of self.now }
-    {
+    fn place(&self) -> usize {
         match self {
             WriterFault::Group(f) => f.place(),
             WriterFault::Unbalanced(at) => *at,
@@ -71,9 +73,7 @@ impl WriterFault {
         }
     }
 
-    pub fn layer(&self) -> Layer
-        ensures { result ≡ layer_of self.now }
-    {
+    fn layer(&self) -> Layer {
         match self {
             WriterFault::Group(f) => f.layer(),
             WriterFault::Unbalanced(_) => Layer::Groups,

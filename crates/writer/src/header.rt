@@ -1,11 +1,14 @@
-// The bytes around what is typed.
-ghost use Rattle.std.specs.Prelude.{◌≡◌, ◌+◌, ◌≤◌, ◌++◌, length, decimal};
-ghost use Rattle.writer.specs.Header.{mark_of, start_of, header};
-ghost use Rattle.writer.specs.Shown.{shown};
+// The bytes before what is typed.
+ghost use Rattle.std.specs.Prelude.{◌≡◌};
+ghost use Rattle.writer.specs.Header.{mark_of, start_of, header as header_of};
 
-use crate::spelling::Spelling;
+use crate::fixed::append;
+use arrayvec::ArrayVec;
+use itoa::Buffer;
 use records::Kind;
-use sinks::{Sink, put_all};
+
+// The most bytes that a header has: that of HTML, in a page whose number has five digits.
+const ROOM: usize = 101;
 
 // What a header has before the number of its code page, and after the mark of its kind.
 const HEAD: &[u8] = b"{\\rtf1\\ansi\\ansicpg";
@@ -32,43 +35,15 @@ fn start_of(kind: Kind) -> &'static [u8]
     }
 }
 
-fn decimal_of(number: u16) -> Spelling
-    ensures { shown result ≡ decimal number }
+// The header of a record of a kind, in the code page of a number.
+pub fn header(number: u16, kind: Kind) -> ArrayVec<u8, ROOM>
+    ensures { result.items ≡ header_of number kind }
 {
-    let mut digits = Spelling::new();
-    digits.push_decimal(number);
-    digits
-}
-
-// How many bytes the header has.
-pub fn header_length(number: u16, kind: Kind) -> usize
-    ensures { result ≡ length (header number kind) }
-{
-    HEAD.len()
-        + decimal_of(number).bytes().len()
-        + mark_of(kind).len()
-        + FONTS.len()
-        + start_of(kind).len()
-}
-
-// Puts bytes for which the sink has space.
-pub fn put_fitting<S: Sink>(sink: &mut S, bytes: &[u8])
-    requires { length bytes.now ≤ S.Sink.space sink.old }
-    ensures held { S.Sink.held sink.new ≡ S.Sink.held sink.old ++ bytes.now }
-    ensures space { S.Sink.space sink.new + length bytes.now ≡ S.Sink.space sink.old }
-{
-    let _ = put_all(sink, bytes);
-}
-
-// Puts the header.
-pub fn put_header<S: Sink>(number: u16, kind: Kind, sink: &mut S)
-    requires { length (header number kind) ≤ S.Sink.space sink.old }
-    ensures held { S.Sink.held sink.new ≡ S.Sink.held sink.old ++ header number kind }
-    ensures space { S.Sink.space sink.new + length (header number kind) ≡ S.Sink.space sink.old }
-{
-    put_fitting(sink, HEAD);
-    put_fitting(sink, decimal_of(number).bytes());
-    put_fitting(sink, mark_of(kind));
-    put_fitting(sink, FONTS);
-    put_fitting(sink, start_of(kind));
+    let mut bytes = ArrayVec::new();
+    append(&mut bytes, HEAD);
+    append(&mut bytes, Buffer::new().format(number).as_bytes());
+    append(&mut bytes, mark_of(kind));
+    append(&mut bytes, FONTS);
+    append(&mut bytes, start_of(kind));
+    bytes
 }

@@ -3,12 +3,14 @@
 
 mod decoration;
 mod faults;
+mod fixed;
 mod header;
+mod keys;
 mod piece;
 mod spelling;
 mod state;
 mod writer;
 
 pub use faults::WriterFault;
-pub use state::{CallKind, State, allowed};
+pub use state::{CallKind, allowed};
 pub use writer::Writer;

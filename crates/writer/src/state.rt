@@ -1,17 +1,9 @@
-// Which call the writer's state takes.
+// Which call the writer's state takes: a record of a kind is open, or none is.
 ghost use Rattle.std.specs.Prelude.{◌≡◌};
-ghost use Rattle.writer.specs.States.{allowed as allowed_of, open_as};
+ghost use Rattle.writer.specs.States.{allowed as allowed_of};
 
 use crate::faults::WriterFault;
 use records::Kind;
-
-// What is open.
-#[derive(Clone, Copy, PartialEq, Eq, Debug)]
-pub enum State {
-    NoneOpen,
-    HtmlOpen,
-    TextOpen,
-}
 
 // The five writing calls.
 #[derive(Clone, Copy, PartialEq, Eq, Debug)]
@@ -23,26 +15,16 @@ pub enum CallKind {
     Finish,
 }
 
-// The state and the call together decide.
-pub fn allowed(state: State, call: CallKind) -> Result<(), WriterFault>
+// What is open and the call together decide.
+pub fn allowed(state: Option<Kind>, call: CallKind) -> Result<(), WriterFault>
     ensures { result ≡ allowed_of state call }
 {
     match (state, call) {
-        (State::NoneOpen, CallKind::Open) => Ok(()),
-        (State::NoneOpen, _) => Err(WriterFault::NoneOpen),
-        (State::HtmlOpen | State::TextOpen, CallKind::Open) => Err(WriterFault::AlreadyOpen),
-        (State::TextOpen, CallKind::Markup | CallKind::Dress) => Err(WriterFault::TextOpen),
-        (State::HtmlOpen, CallKind::Markup | CallKind::Dress) => Ok(()),
-        (State::HtmlOpen | State::TextOpen, CallKind::Text | CallKind::Finish) => Ok(()),
-    }
-}
-
-// The state in which a record of this kind is open.
-pub fn open_as(kind: Kind) -> State
-    ensures { result ≡ open_as kind }
-{
-    match kind {
-        Kind::Html => State::HtmlOpen,
-        Kind::Text => State::TextOpen,
+        (None, CallKind::Open) => Ok(()),
+        (None, _) => Err(WriterFault::NoneOpen),
+        (Some(_), CallKind::Open) => Err(WriterFault::AlreadyOpen),
+        (Some(Kind::Text), CallKind::Markup | CallKind::Dress) => Err(WriterFault::TextOpen),
+        (Some(Kind::Html), CallKind::Markup | CallKind::Dress) => Ok(()),
+        (Some(_), CallKind::Text | CallKind::Finish) => Ok(()),
     }
 }

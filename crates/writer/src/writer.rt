@@ -1,15 +1,14 @@
 // The writer, and its calls.
-ghost use Rattle.std.specs.Prelude.{◌≡◌, ◌+◌, ◌≤◌, length, OnErr};
-ghost use Rattle.std.specs.Str.{chars};
-ghost use Rattle.writer.specs.Calls.{room as room_of, begin, markup as markup_ask, text as text_ask, dress as dress_ask, finish as finish_ask};
-ghost use Rattle.writer.specs.Spelling.{spelled_all};
-ghost use Rattle.writer.specs.Writers.{moment_of, begun, measured, Served};
+ghost use Rattle.std.specs.Prelude.{◌≡◌, ◌+◌, ◌≤◌, length, OnOk, OnErr};
+ghost use Rattle.writer.specs.Calls.{room as room_of, begin, markup as markup_ask, text as text_ask, dress as dress_ask, finish as finish_ask, added};
+ghost use Rattle.writer.specs.Shown.{shown_piece};
+ghost use Rattle.writer.specs.Writers.{moment_of, begun, measured, framed, Serves};
 
 use crate::decoration::check_decoration;
 use crate::faults::WriterFault;
-use crate::header::{header_length, put_fitting, put_header};
-use crate::piece::{put_text, spelled_length, typed};
-use crate::state::{CallKind, State, allowed, open_as};
+use crate::header::header;
+use crate::piece::{Frame, Piece, put_fitting, typed};
+use crate::state::{CallKind, allowed};
 use pages::CodePage;
 use records::Kind;
 use sinks::Sink;
@@ -17,37 +16,33 @@ use sinks::Sink;
 // The most bytes that a record has: no more than reading takes.
 const MAX_RECORD: usize = 32_768;
 
-// The group that holds markup.
-const TAG_OPEN: &[u8] = b"{\\*\\htmltag ";
+// Markup stands in a tag group, text as it is, and decoration between the words that keep it from the content.
+const MARKUP: Frame = Frame {
+    front: b"{\\*\\htmltag ",
+    back: b"}",
+};
 
-const TAG_CLOSE: &[u8] = b"}";
+const TEXT: Frame = Frame {
+    front: b"",
+    back: b"",
+};
 
-// The words around decoration.
-const DRESS_ON: &[u8] = b"\\htmlrtf ";
+const DRESS: Frame = Frame {
+    front: b"\\htmlrtf ",
+    back: b"\\htmlrtf0 ",
+};
 
-const DRESS_OFF: &[u8] = b"\\htmlrtf0 ";
-
-// A writer with its code page and its sink.
+// A writer with its code page and its sink. Its callers need these themselves, so contracts name the fields and the meanings of
+// both; a model would show all of them again.
 #[derive(Drop)]
 pub struct Writer<P: CodePage, S: Sink> {
     page: P,
     sink: S,
-    state: State,
-    // How many bytes the open record has.
+    // The kind of the open record, if one is open.
+    state: Option<Kind>,
+    // How many bytes the open record has, or 0. It stands beside the kind: an option of both would be taken apart again after
+    // each check of the state.
     size: usize,
-}
-
-// Whether so many bytes more, and the closing brace, are not too many for the record and for the sink.
-fn room(size: usize, space: usize, count: usize) -> Result<(), WriterFault>
-    ensures { result ≡ room_of size space count }
-{
-    if size.saturating_add(count).saturating_add(1) > MAX_RECORD {
-        return Err(WriterFault::TooLong);
-    }
-    if space <= count {
-        return Err(WriterFault::NoSpace);
-    }
-    Ok(())
 }
 
 impl<P: CodePage, S: Sink> Writer<P, S> {
@@ -60,13 +55,13 @@ impl<P: CodePage, S: Sink> Writer<P, S> {
         Writer {
             page,
             sink,
-            state: State::NoneOpen,
+            state: None,
             size: 0,
         }
     }
 
     // What is open.
-    pub fn state(&self) -> State
+    pub fn state(&self) -> Option<Kind>
         ensures { result ≡ self.now.state }
     {
         self.state
@@ -91,96 +86,86 @@ impl<P: CodePage, S: Sink> Writer<P, S> {
 
     // Begins a record of a kind, and tells how many bytes more the sink holds.
     pub fn open(&mut self, kind: Kind) -> Result<usize, WriterFault>
-        ensures served { Served (P.CodePage.number self.old.page) (P.CodePage.encoded self.old.page) (begin kind) (moment_of S.Sink.held S.Sink.space self.old) result (moment_of S.Sink.held S.Sink.space self.new) }
-        ensures page { self.new.page ≡ self.old.page }
-        ensures untouched { OnErr result (self.new ≡ self.old) }
+        ensures { Serves P.CodePage.number P.CodePage.encoded S.Sink.held S.Sink.space (begin kind) self.old result self.new }
     {
         allowed(self.state, CallKind::Open)?;
-        let number = self.page.number();
-        let count = header_length(number, kind);
-        room(0, self.sink.space(), count)?;
-        put_header(number, kind, &mut self.sink);
-        self.state = open_as(kind);
-        self.size = count;
-        Ok(count)
+        let header = header(self.page.number(), kind);
+        self.check_room(0, header.len())?;
+        put_fitting(&mut self.sink, &header);
+        self.state = Some(kind);
+        self.size = header.len();
+        Ok(self.size)
     }
 
     // Adds a piece of markup to the open record.
     pub fn markup(&mut self, piece: &[u8]) -> Result<usize, WriterFault>
-        ensures served { Served (P.CodePage.number self.old.page) (P.CodePage.encoded self.old.page) (markup_ask piece.now) (moment_of S.Sink.held S.Sink.space self.old) result (moment_of S.Sink.held S.Sink.space self.new) }
-        ensures page { self.new.page ≡ self.old.page }
-        ensures untouched { OnErr result (self.new ≡ self.old) }
+        ensures { Serves P.CodePage.number P.CodePage.encoded S.Sink.held S.Sink.space (markup_ask piece.now) self.old result self.new }
     {
         allowed(self.state, CallKind::Markup)?;
-        let text = typed(piece)?;
-        let count = self.measure(text, TAG_OPEN.len() + TAG_CLOSE.len())?;
-        put_fitting(&mut self.sink, TAG_OPEN);
-        put_text(&self.page, text, &mut self.sink);
-        put_fitting(&mut self.sink, TAG_CLOSE);
-        self.size += count;
-        Ok(count)
+        self.add(MARKUP, Piece::Typed(typed(piece)?))
     }
 
     // Adds a piece of text to the open record.
     pub fn text(&mut self, piece: &[u8]) -> Result<usize, WriterFault>
-        ensures served { Served (P.CodePage.number self.old.page) (P.CodePage.encoded self.old.page) (text_ask piece.now) (moment_of S.Sink.held S.Sink.space self.old) result (moment_of S.Sink.held S.Sink.space self.new) }
-        ensures page { self.new.page ≡ self.old.page }
-        ensures untouched { OnErr result (self.new ≡ self.old) }
+        ensures { Serves P.CodePage.number P.CodePage.encoded S.Sink.held S.Sink.space (text_ask piece.now) self.old result self.new }
     {
         allowed(self.state, CallKind::Text)?;
-        let text = typed(piece)?;
-        let count = self.measure(text, 0)?;
-        put_text(&self.page, text, &mut self.sink);
-        self.size += count;
-        Ok(count)
+        self.add(TEXT, Piece::Typed(typed(piece)?))
     }
 
     // Adds decoration to the open record: what other readers show, and reading passes over.
     pub fn dress(&mut self, decoration: &[u8]) -> Result<usize, WriterFault>
-        ensures served { Served (P.CodePage.number self.old.page) (P.CodePage.encoded self.old.page) (dress_ask decoration.now) (moment_of S.Sink.held S.Sink.space self.old) result (moment_of S.Sink.held S.Sink.space self.new) }
-        ensures page { self.new.page ≡ self.old.page }
-        ensures untouched { OnErr result (self.new ≡ self.old) }
+        ensures { Serves P.CodePage.number P.CodePage.encoded S.Sink.held S.Sink.space (dress_ask decoration.now) self.old result self.new }
     {
         allowed(self.state, CallKind::Dress)?;
         check_decoration(decoration)?;
-        if decoration.len() > MAX_RECORD {
-            return Err(WriterFault::TooLong);
-        }
-        let count = DRESS_ON.len() + decoration.len() + DRESS_OFF.len();
-        room(self.size, self.sink.space(), count)?;
-        put_fitting(&mut self.sink, DRESS_ON);
-        put_fitting(&mut self.sink, decoration);
-        put_fitting(&mut self.sink, DRESS_OFF);
-        self.size += count;
-        Ok(count)
+        self.add(DRESS, Piece::Decoration(decoration))
     }
 
     // Ends the open record. The byte for its brace has been kept.
     pub fn finish(&mut self) -> Result<usize, WriterFault>
-        ensures served { Served (P.CodePage.number self.old.page) (P.CodePage.encoded self.old.page) finish_ask (moment_of S.Sink.held S.Sink.space self.old) result (moment_of S.Sink.held S.Sink.space self.new) }
-        ensures page { self.new.page ≡ self.old.page }
-        ensures untouched { OnErr result (self.new ≡ self.old) }
+        ensures { Serves P.CodePage.number P.CodePage.encoded S.Sink.held S.Sink.space finish_ask self.old result self.new }
     {
         allowed(self.state, CallKind::Finish)?;
         if self.sink.space() == 0 {
             return Err(WriterFault::NoSpace);
         }
         put_fitting(&mut self.sink, b"}");
-        self.state = State::NoneOpen;
+        self.state = None;
         self.size = 0;
         Ok(1)
     }
 
-    // How many bytes a text has with a frame around it, if there is room for them.
-    fn measure(&self, text: &str, frame: usize) -> Result<usize, WriterFault>
-        requires { frame ≤ 32768 }
-        ensures { result ≡ measured self.now.size (S.Sink.space self.now.sink) (frame + length (spelled_all (P.CodePage.encoded self.now.page) (chars text.now))) }
+    // Adds a piece in its frame to the open record, if there is room for them.
+    fn add(&mut self, frame: Frame, piece: Piece<'_>) -> Result<usize, WriterFault>
+        requires { length frame.front.now + length frame.back.now ≤ 32768 }
+        ensures tells { result ≡ measured self.old.size (S.Sink.space self.old.sink) (length (framed frame (shown_piece (P.CodePage.encoded self.old.page) piece.entry))) }
+        ensures leaves { OnOk result (moment_of S.Sink.held S.Sink.space self.new ≡ added (moment_of S.Sink.held S.Sink.space self.old) (framed frame (shown_piece (P.CodePage.encoded self.old.page) piece.entry))) }
+        ensures page { self.new.page ≡ self.old.page }
+        ensures untouched { OnErr result (self.new ≡ self.old) }
     {
-        let Some(length) = spelled_length(&self.page, text, MAX_RECORD) else {
-            return Err(WriterFault::TooLong);
-        };
-        let count = frame + length;
-        room(self.size, self.sink.space(), count)?;
+        let length = piece
+            .length(&self.page, MAX_RECORD)
+            .ok_or(WriterFault::TooLong)?;
+        let count = frame.front.len() + length + frame.back.len();
+        self.check_room(self.size, count)?;
+        put_fitting(&mut self.sink, frame.front);
+        piece.put(&self.page, &mut self.sink);
+        put_fitting(&mut self.sink, frame.back);
+        self.size += count;
         Ok(count)
+    }
+
+    // Whether so many bytes more, and the closing brace, are not too many for a record of a size and for the sink.
+    fn check_room(&self, size: usize, count: usize) -> Result<(), WriterFault>
+        ensures { result ≡ room_of size (S.Sink.space self.now.sink) count }
+    {
+        if size.saturating_add(count).saturating_add(1) > MAX_RECORD {
+            return Err(WriterFault::TooLong);
+        }
+        if self.sink.space() <= count {
+            return Err(WriterFault::NoSpace);
+        }
+        Ok(())
     }
 }

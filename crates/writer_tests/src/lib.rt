@@ -3,43 +3,42 @@
 
 #[cfg(test)]
 mod tests {
-    use layers::Layer;
+    use layers::{Fault, Layer, Refusal};
     use pages::{Ascii20127, CodePage, Windows1251, Windows1252};
     use records::Kind;
     use sinks::{BufferSink, Sink};
+    use sittings::{Call, make};
     use std::process::Abort;
     use std::test::Fail;
-    use writer::{State, Writer};
+    use writer::Writer;
 
-    // What comes of a call: how many bytes were put, or a refusal with its number, place and layer.
-    #[derive(Clone, Copy, PartialEq, Debug)]
-    enum Outcome {
-        Put(usize),
-        Refused(u8, usize, Layer),
+    // What comes of a call: how many bytes were put, or the refusal.
+    type Told = Result<usize, Refusal>;
+
+    fn refused(number: u8, place: usize, layer: Layer) -> Told {
+        Err(Refusal {
+            number,
+            place,
+            layer,
+        })
     }
 
+    // What stands before a call: the calls that were made, and how many bytes the archive has then.
     #[derive(Clone, Copy)]
-    enum Name {
-        OpenHtml,
-        OpenText,
-        Markup,
-        Text,
-        Dress,
-        Finish,
-    }
+    struct Before(&'static [Call<'static>], usize);
 
-    // What stands before a call: no record, an open one with its header alone, or one that was finished.
-    #[derive(Clone, Copy)]
-    enum Before {
-        Nothing,
-        Html,
-        Text,
-        Finished,
-    }
+    // No record, an open one with its header alone, or one that was finished.
+    const NOTHING: Before = Before(&[], 0);
 
-    // What a case shows, what stands before, how much space is left then, the call with its piece, and what comes of it.
+    const HTML: Before = Before(&[Call::Open(Kind::Html)], 100);
+
+    const TEXT: Before = Before(&[Call::Open(Kind::Text)], 86);
+
+    const FINISHED: Before = Before(&[Call::Open(Kind::Html), Call::Finish], 101);
+
+    // What a case shows, what stands before, how much space is left then, the call, and what comes of it.
     #[derive(Clone, Copy)]
-    struct Case(&'static str, Before, usize, Name, &'static [u8], Outcome);
+    struct Case(&'static str, Before, usize, Call<'static>, Told);
 
     // Room for the small cases, and for a whole record with some more.
     const ROOM: usize = 512;
@@ -49,45 +48,27 @@ mod tests {
     // The most bytes that an open record has.
     const MOST: usize = 32_767;
 
-    fn made<P: CodePage, S: Sink>(writer: &mut Writer<P, S>, name: Name, piece: &[u8]) -> Outcome {
-        let told = match name {
-            Name::OpenHtml => writer.open(Kind::Html),
-            Name::OpenText => writer.open(Kind::Text),
-            Name::Markup => writer.markup(piece),
-            Name::Text => writer.text(piece),
-            Name::Dress => writer.dress(piece),
-            Name::Finish => writer.finish(),
-        };
-        match told {
-            Ok(count) => Outcome::Put(count),
-            Err(fault) => Outcome::Refused(fault.number(), fault.place(), fault.layer()),
-        }
-    }
-
-    fn is_open<P: CodePage, S: Sink>(writer: &Writer<P, S>) -> bool {
-        !matches!(writer.state(), State::NoneOpen)
-    }
-
     // Makes a call, and checks what came of it: a refused one leaves the state, the count and the space as they were.
     fn check_call<P: CodePage, S: Sink>(
         rt: &impl Abort,
         shows: &str,
         writer: &mut Writer<P, S>,
-        name: Name,
-        piece: &[u8],
-        outcome: Outcome,
+        call: Call<'_>,
+        told: Told,
     ) {
-        let open = is_open(writer);
+        let state = writer.state();
         let count = writer.sink().count();
         let space = writer.sink().space();
-        assert_eq!(rt; made(writer, name, piece), outcome, "{}", shows);
-        let more = match outcome {
-            Outcome::Put(more) => more,
-            Outcome::Refused(_, _, _) => {
-                assert_eq!(rt; is_open(writer), open, "what is open: {}", shows);
-                0
-            }
-        };
+        assert_eq!(rt;
+            make(writer, call).map_err(|fault| fault.refusal()),
+            told,
+            "{}",
+            shows
+        );
+        if told.is_err() {
+            assert_eq!(rt; writer.state(), state, "what is open: {}", shows);
+        }
+        let more = told.unwrap_or(0);
         assert_eq!(rt;
             writer.sink().count(),
             count.saturating_add(more),
@@ -102,85 +83,66 @@ mod tests {
         );
     }
 
-    // How many bytes the archive has then.
-    fn standing(before: Before) -> usize {
-        match before {
-            Before::Nothing => 0,
-            Before::Html => 100,
-            Before::Text => 86,
-            Before::Finished => 101,
-        }
-    }
-
     fn prepare<P: CodePage, S: Sink>(
         writer: &mut Writer<P, S>,
         before: Before,
     ) -> Result<(), Fail> {
-        match before {
-            Before::Nothing => {}
-            Before::Html => {
-                writer.open(Kind::Html)?;
-            }
-            Before::Text => {
-                writer.open(Kind::Text)?;
-            }
-            Before::Finished => {
-                writer.open(Kind::Html)?;
-                writer.finish()?;
-            }
+        for call in before.0 {
+            make(writer, *call)?;
         }
         Ok(())
     }
 
     fn check_case(rt: &impl Abort, case: &Case) -> Result<(), Fail> {
-        let Case(shows, before, space, name, piece, outcome) = *case;
-        let size = standing(before).saturating_add(space);
+        let Case(shows, before, space, call, told) = *case;
+        let size = before.1.saturating_add(space);
         assert!(rt; size <= ROOM);
         let mut room = [0; ROOM];
         let mut writer = Writer::new(Windows1252, BufferSink::new(&mut room[0..size]));
         prepare(&mut writer, before)?;
-        check_call(rt, shows, &mut writer, name, piece, outcome);
+        check_call(rt, shows, &mut writer, call, told);
         Ok(())
     }
 
     fn check_cases(rt: &impl Abort, cases: &[Case]) -> Result<(), Fail> {
-        for case in cases {
-            check_case(rt, case)?;
-        }
-        Ok(())
+        cases.iter().try_for_each(|case| check_case(rt, case))
     }
 
     fn check_header<P: CodePage + Drop>(
         rt: &impl Abort,
         page: P,
-        name: Name,
+        kind: Kind,
         space: usize,
-        outcome: Outcome,
+        told: Told,
     ) {
         assert!(rt; space <= ROOM);
         let mut room = [0; ROOM];
         let mut writer = Writer::new(page, BufferSink::new(&mut room[0..space]));
-        check_call(rt, "a header", &mut writer, name, b"", outcome);
+        check_call(rt, "a header", &mut writer, Call::Open(kind), told);
     }
 
-    const FULL: Outcome = Outcome::Refused(24, 0, Layer::Writer);
+    const FULL: Told = Err(Refusal {
+        number: 24,
+        place: 0,
+        layer: Layer::Writer,
+    });
 
     #[test]
     fn a_header_needs_its_brace_too(rt: HostRuntime) {
-        check_header(&rt, Windows1252, Name::OpenHtml, 100, FULL);
-        check_header(&rt, Windows1252, Name::OpenHtml, 101, Outcome::Put(100));
-        check_header(&rt, Windows1252, Name::OpenText, 86, FULL);
-        check_header(&rt, Windows1252, Name::OpenText, 87, Outcome::Put(86));
-        check_header(&rt, Windows1251, Name::OpenHtml, 100, FULL);
-        check_header(&rt, Windows1251, Name::OpenHtml, 101, Outcome::Put(100));
+        check_header(&rt, Windows1252, Kind::Html, 100, FULL);
+        check_header(&rt, Windows1252, Kind::Html, 101, Ok(100));
+        check_header(&rt, Windows1252, Kind::Text, 86, FULL);
+        check_header(&rt, Windows1252, Kind::Text, 87, Ok(86));
+        check_header(&rt, Windows1251, Kind::Html, 100, FULL);
+        check_header(&rt, Windows1251, Kind::Html, 101, Ok(100));
     }
 
     #[test]
     fn a_page_of_five_digits_needs_one_byte_more(rt: HostRuntime) {
-        check_header(&rt, Ascii20127, Name::OpenHtml, 101, FULL);
-        check_header(&rt, Ascii20127, Name::OpenHtml, 102, Outcome::Put(101));
-        check_header(&rt, Ascii20127, Name::OpenText, 87, FULL);
-        check_header(&rt, Ascii20127, Name::OpenText, 88, Outcome::Put(87));
+        check_header(&rt, Ascii20127, Kind::Html, 101, FULL);
+        check_header(&rt, Ascii20127, Kind::Html, 102, Ok(101));
+        check_header(&rt, Ascii20127, Kind::Text, 87, FULL);
+        check_header(&rt, Ascii20127, Kind::Text, 88, Ok(87));
     }
 
     #[test]
@@ -190,156 +152,101 @@ mod tests {
             &[
                 Case(
                     "text without a record",
-                    Before::Nothing,
+                    NOTHING,
                     300,
-                    Name::Text,
-                    b"a",
-                    Outcome::Refused(21, 0, Layer::Writer),
+                    Call::Text(b"a"),
+                    refused(21, 0, Layer::Writer),
                 ),
                 Case(
                     "markup without a record",
-                    Before::Nothing,
+                    NOTHING,
                     300,
-                    Name::Markup,
-                    b"a",
-                    Outcome::Refused(21, 0, Layer::Writer),
+                    Call::Markup(b"a"),
+                    refused(21, 0, Layer::Writer),
                 ),
                 Case(
                     "decoration without a record",
-                    Before::Nothing,
+                    NOTHING,
                     300,
-                    Name::Dress,
-                    b"a",
-                    Outcome::Refused(21, 0, Layer::Writer),
+                    Call::Dress(b"a"),
+                    refused(21, 0, Layer::Writer),
                 ),
                 Case(
                     "an end without a record",
-                    Before::Nothing,
+                    NOTHING,
                     300,
-                    Name::Finish,
-                    b"",
-                    Outcome::Refused(21, 0, Layer::Writer),
+                    Call::Finish,
+                    refused(21, 0, Layer::Writer),
                 ),
                 Case(
                     "an end after the end",
-                    Before::Finished,
+                    FINISHED,
                     300,
-                    Name::Finish,
-                    b"",
-                    Outcome::Refused(21, 0, Layer::Writer),
+                    Call::Finish,
+                    refused(21, 0, Layer::Writer),
                 ),
-                Case(
-                    "text in HTML",
-                    Before::Html,
-                    300,
-                    Name::Text,
-                    b"a",
-                    Outcome::Put(1),
-                ),
-                Case(
-                    "markup in HTML",
-                    Before::Html,
-                    300,
-                    Name::Markup,
-                    b"a",
-                    Outcome::Put(14),
-                ),
-                Case(
-                    "decoration in HTML",
-                    Before::Html,
-                    300,
-                    Name::Dress,
-                    b"a",
-                    Outcome::Put(20),
-                ),
-                Case(
-                    "the end of HTML",
-                    Before::Html,
-                    300,
-                    Name::Finish,
-                    b"",
-                    Outcome::Put(1),
-                ),
+                Case("text in HTML", HTML, 300, Call::Text(b"a"), Ok(1)),
+                Case("markup in HTML", HTML, 300, Call::Markup(b"a"), Ok(14)),
+                Case("decoration in HTML", HTML, 300, Call::Dress(b"a"), Ok(20)),
+                Case("the end of HTML", HTML, 300, Call::Finish, Ok(1)),
                 Case(
                     "HTML in HTML",
-                    Before::Html,
+                    HTML,
                     300,
-                    Name::OpenHtml,
-                    b"",
-                    Outcome::Refused(22, 0, Layer::Writer),
+                    Call::Open(Kind::Html),
+                    refused(22, 0, Layer::Writer),
                 ),
                 Case(
                     "a text in HTML",
-                    Before::Html,
+                    HTML,
                     300,
-                    Name::OpenText,
-                    b"",
-                    Outcome::Refused(22, 0, Layer::Writer),
+                    Call::Open(Kind::Text),
+                    refused(22, 0, Layer::Writer),
                 ),
                 Case(
                     "HTML in a text",
-                    Before::Text,
+                    TEXT,
                     300,
-                    Name::OpenHtml,
-                    b"",
-                    Outcome::Refused(22, 0, Layer::Writer),
+                    Call::Open(Kind::Html),
+                    refused(22, 0, Layer::Writer),
                 ),
                 Case(
                     "a text in a text",
-                    Before::Text,
+                    TEXT,
                     300,
-                    Name::OpenText,
-                    b"",
-                    Outcome::Refused(22, 0, Layer::Writer),
+                    Call::Open(Kind::Text),
+                    refused(22, 0, Layer::Writer),
                 ),
                 Case(
                     "HTML after the end",
-                    Before::Finished,
+                    FINISHED,
                     300,
-                    Name::OpenHtml,
-                    b"",
-                    Outcome::Put(100),
+                    Call::Open(Kind::Html),
+                    Ok(100),
                 ),
                 Case(
                     "a text after the end",
-                    Before::Finished,
+                    FINISHED,
                     300,
-                    Name::OpenText,
-                    b"",
-                    Outcome::Put(86),
+                    Call::Open(Kind::Text),
+                    Ok(86),
                 ),
                 Case(
                     "markup in a text",
-                    Before::Text,
+                    TEXT,
                     300,
-                    Name::Markup,
-                    b"a",
-                    Outcome::Refused(23, 0, Layer::Writer),
+                    Call::Markup(b"a"),
+                    refused(23, 0, Layer::Writer),
                 ),
                 Case(
                     "decoration in a text",
-                    Before::Text,
+                    TEXT,
                     300,
-                    Name::Dress,
-                    b"a",
-                    Outcome::Refused(23, 0, Layer::Writer),
+                    Call::Dress(b"a"),
+                    refused(23, 0, Layer::Writer),
                 ),
-                Case(
-                    "text in a text",
-                    Before::Text,
-                    300,
-                    Name::Text,
-                    b"a",
-                    Outcome::Put(1),
-                ),
-                Case(
-                    "the end of a text",
-                    Before::Text,
-                    300,
-                    Name::Finish,
-                    b"",
-                    Outcome::Put(1),
-                ),
+                Case("text in a text", TEXT, 300, Call::Text(b"a"), Ok(1)),
+                Case("the end of a text", TEXT, 300, Call::Finish, Ok(1)),
             ],
         )
     }
@@ -349,125 +256,104 @@ mod tests {
         check_cases(
             &rt,
             &[
-                Case(
-                    "no bytes at all",
-                    Before::Html,
-                    300,
-                    Name::Text,
-                    b"",
-                    Outcome::Put(0),
-                ),
+                Case("no bytes at all", HTML, 300, Call::Text(b""), Ok(0)),
                 Case(
                     "a byte that starts nothing",
-                    Before::Html,
+                    HTML,
                     300,
-                    Name::Text,
-                    b"ab\xFF",
-                    Outcome::Refused(13, 2, Layer::Writer),
+                    Call::Text(b"ab\xFF"),
+                    refused(13, 2, Layer::Writer),
                 ),
                 Case(
                     "the character of that byte",
-                    Before::Html,
+                    HTML,
                     300,
-                    Name::Text,
-                    b"ab\xC3\xBF",
-                    Outcome::Put(6),
+                    Call::Text(b"ab\xC3\xBF"),
+                    Ok(6),
                 ),
                 Case(
                     "a byte that only goes on",
-                    Before::Html,
+                    HTML,
                     300,
-                    Name::Text,
-                    b"a\x80",
-                    Outcome::Refused(13, 1, Layer::Writer),
+                    Call::Text(b"a\x80"),
+                    refused(13, 1, Layer::Writer),
                 ),
                 Case(
                     "two bytes of three",
-                    Before::Html,
+                    HTML,
                     300,
-                    Name::Text,
-                    b"ab\xE2\x82",
-                    Outcome::Refused(13, 2, Layer::Writer),
+                    Call::Text(b"ab\xE2\x82"),
+                    refused(13, 2, Layer::Writer),
                 ),
                 Case(
                     "three bytes of three",
-                    Before::Html,
+                    HTML,
                     300,
-                    Name::Text,
-                    b"ab\xE2\x82\xAC",
-                    Outcome::Put(6),
+                    Call::Text(b"ab\xE2\x82\xAC"),
+                    Ok(6),
                 ),
                 Case(
                     "a sequence cut short by a letter",
-                    Before::Html,
+                    HTML,
                     300,
-                    Name::Text,
-                    b"\xE2\x82x",
-                    Outcome::Refused(13, 0, Layer::Writer),
+                    Call::Text(b"\xE2\x82x"),
+                    refused(13, 0, Layer::Writer),
                 ),
                 Case(
                     "two bytes for NUL",
-                    Before::Html,
+                    HTML,
                     300,
-                    Name::Text,
-                    b"\xC0\x80",
-                    Outcome::Refused(13, 0, Layer::Writer),
+                    Call::Text(b"\xC0\x80"),
+                    refused(13, 0, Layer::Writer),
                 ),
                 Case(
                     "three bytes where two do",
-                    Before::Html,
+                    HTML,
                     300,
-                    Name::Text,
-                    b"\xE0\x9F\xBF",
-                    Outcome::Refused(13, 0, Layer::Writer),
+                    Call::Text(b"\xE0\x9F\xBF"),
+                    refused(13, 0, Layer::Writer),
                 ),
                 Case(
                     "the first that needs three",
-                    Before::Html,
+                    HTML,
                     300,
-                    Name::Text,
-                    b"\xE0\xA0\x80",
-                    Outcome::Put(7),
+                    Call::Text(b"\xE0\xA0\x80"),
+                    Ok(7),
                 ),
                 Case(
                     "a surrogate",
-                    Before::Html,
+                    HTML,
                     300,
-                    Name::Text,
-                    b"\xED\xA0\x80",
-                    Outcome::Refused(13, 0, Layer::Writer),
+                    Call::Text(b"\xED\xA0\x80"),
+                    refused(13, 0, Layer::Writer),
                 ),
                 Case(
                     "the last before the surrogates",
-                    Before::Html,
+                    HTML,
                     300,
-                    Name::Text,
-                    b"\xED\x9F\xBF",
-                    Outcome::Put(9),
+                    Call::Text(b"\xED\x9F\xBF"),
+                    Ok(9),
                 ),
                 Case(
                     "beyond the last character",
-                    Before::Html,
+                    HTML,
                     300,
-                    Name::Text,
-                    b"\xF4\x90\x80\x80",
-                    Outcome::Refused(13, 0, Layer::Writer),
+                    Call::Text(b"\xF4\x90\x80\x80"),
+                    refused(13, 0, Layer::Writer),
                 ),
                 Case(
                     "the last character",
-                    Before::Html,
+                    HTML,
                     300,
-                    Name::Text,
-                    b"\xF4\x8F\xBF\xBF",
-                    Outcome::Put(16),
+                    Call::Text(b"\xF4\x8F\xBF\xBF"),
+                    Ok(16),
                 ),
                 Case(
                     "markup that is broken",
-                    Before::Html,
+                    HTML,
                     300,
-                    Name::Markup,
-                    b"<b\xFF>",
-                    Outcome::Refused(13, 2, Layer::Writer),
+                    Call::Markup(b"<b\xFF>"),
+                    refused(13, 2, Layer::Writer),
                 ),
             ],
         )
@@ -480,51 +366,39 @@ mod tests {
             &[
                 Case(
                     "below the space",
-                    Before::Html,
+                    HTML,
                     300,
-                    Name::Dress,
-                    b"a\x1F",
-                    Outcome::Refused(16, 1, Layer::Writer),
+                    Call::Dress(b"a\x1F"),
+                    refused(16, 1, Layer::Writer),
                 ),
-                Case(
-                    "the space",
-                    Before::Html,
-                    300,
-                    Name::Dress,
-                    b"a ",
-                    Outcome::Put(21),
-                ),
+                Case("the space", HTML, 300, Call::Dress(b"a "), Ok(21)),
                 Case(
                     "the last that is printable",
-                    Before::Html,
+                    HTML,
                     300,
-                    Name::Dress,
-                    b"a~",
-                    Outcome::Put(21),
+                    Call::Dress(b"a~"),
+                    Ok(21),
                 ),
                 Case(
                     "after the last",
-                    Before::Html,
+                    HTML,
                     300,
-                    Name::Dress,
-                    b"a\x7F",
-                    Outcome::Refused(16, 1, Layer::Writer),
+                    Call::Dress(b"a\x7F"),
+                    refused(16, 1, Layer::Writer),
                 ),
                 Case(
                     "a line break",
-                    Before::Html,
+                    HTML,
                     300,
-                    Name::Dress,
-                    b"\r\n",
-                    Outcome::Refused(16, 0, Layer::Writer),
+                    Call::Dress(b"\r\n"),
+                    refused(16, 0, Layer::Writer),
                 ),
                 Case(
                     "beyond ASCII",
-                    Before::Html,
+                    HTML,
                     300,
-                    Name::Dress,
-                    b"\xC3\xA9",
-                    Outcome::Refused(16, 0, Layer::Writer),
+                    Call::Dress(b"\xC3\xA9"),
+                    refused(16, 0, Layer::Writer),
                 ),
             ],
         )
@@ -535,61 +409,52 @@ mod tests {
         check_cases(
             &rt,
             &[
-                Case(
-                    "a group",
-                    Before::Html,
-                    300,
-                    Name::Dress,
-                    b"{a}",
-                    Outcome::Put(22),
-                ),
+                Case("a group", HTML, 300, Call::Dress(b"{a}"), Ok(22)),
                 Case(
                     "a brace too many",
-                    Before::Html,
+                    HTML,
                     300,
-                    Name::Dress,
-                    b"{a}}",
-                    Outcome::Refused(14, 3, Layer::Groups),
+                    Call::Dress(b"{a}}"),
+                    refused(14, 3, Layer::Groups),
                 ),
                 Case(
                     "a group left open",
-                    Before::Html,
+                    HTML,
                     300,
-                    Name::Dress,
-                    b"{a{b}c",
-                    Outcome::Refused(14, 0, Layer::Groups),
+                    Call::Dress(b"{a{b}c"),
+                    refused(14, 0, Layer::Groups),
                 ),
                 Case(
                     "the last of two left open",
-                    Before::Html,
+                    HTML,
                     300,
-                    Name::Dress,
-                    b"{a{b",
-                    Outcome::Refused(14, 2, Layer::Groups),
+                    Call::Dress(b"{a{b"),
+                    refused(14, 2, Layer::Groups),
                 ),
                 Case(
                     "braces that are text",
-                    Before::Html,
+                    HTML,
                     300,
-                    Name::Dress,
-                    b"\\{\\}\\{",
-                    Outcome::Put(25),
+                    Call::Dress(b"\\{\\}\\{"),
+                    Ok(25),
                 ),
                 Case(
                     "63 groups",
-                    Before::Html,
+                    HTML,
                     300,
-                    Name::Dress,
-                    b"{{{{{{{{{{{{{{{{{{{{{{{{{{{{{{{{{{{{{{{{{{{{{{{{{{{{{{{{{{{{{{{}}}}}}}}}}}}}}}}}}}}}}}}}}}}}}}}}}}}}}}}}}}}}}}}}}}}}}}}}}}}}}}",
-                    Outcome::Put(145),
+                    Call::Dress(
+                        b"{{{{{{{{{{{{{{{{{{{{{{{{{{{{{{{{{{{{{{{{{{{{{{{{{{{{{{{{{{{{{{{}}}}}}}}}}}}}}}}}}}}}}}}}}}}}}}}}}}}}}}}}}}}}}}}}}}}}}}}}}}}}}}",
+                    ),
+                    Ok(145),
                 ),
                 Case(
                     "64 groups",
-                    Before::Html,
+                    HTML,
                     300,
-                    Name::Dress,
-                    b"{{{{{{{{{{{{{{{{{{{{{{{{{{{{{{{{{{{{{{{{{{{{{{{{{{{{{{{{{{{{{{{{}}}}}}}}}}}}}}}}}}}}}}}}}}}}}}}}}}}}}}}}}}}}}}}}}}}}}}}}}}}}}}}}",
-                    Outcome::Refused(3, 63, Layer::Groups),
+                    Call::Dress(
+                        b"{{{{{{{{{{{{{{{{{{{{{{{{{{{{{{{{{{{{{{{{{{{{{{{{{{{{{{{{{{{{{{{{}}}}}}}}}}}}}}}}}}}}}}}}}}}}}}}}}}}}}}}}}}}}}}}}}}}}}}}}}}}}}}}}",
+                    ),
+                    refused(3, 63, Layer::Groups),
                 ),
             ],
         )
@@ -602,99 +467,75 @@ mod tests {
             &[
                 Case(
                     "a backslash at the end",
-                    Before::Html,
+                    HTML,
                     300,
-                    Name::Dress,
-                    b"a\\",
-                    Outcome::Refused(2, 1, Layer::Tokens),
+                    Call::Dress(b"a\\"),
+                    refused(2, 1, Layer::Tokens),
                 ),
-                Case(
-                    "two of them",
-                    Before::Html,
-                    300,
-                    Name::Dress,
-                    b"a\\\\",
-                    Outcome::Put(22),
-                ),
+                Case("two of them", HTML, 300, Call::Dress(b"a\\\\"), Ok(22)),
                 Case(
                     "one digit",
-                    Before::Html,
+                    HTML,
                     300,
-                    Name::Dress,
-                    b"\\'4",
-                    Outcome::Refused(2, 0, Layer::Tokens),
+                    Call::Dress(b"\\'4"),
+                    refused(2, 0, Layer::Tokens),
                 ),
                 Case(
                     "no digit",
-                    Before::Html,
+                    HTML,
                     300,
-                    Name::Dress,
-                    b"\\'4g",
-                    Outcome::Refused(2, 0, Layer::Tokens),
+                    Call::Dress(b"\\'4g"),
+                    refused(2, 0, Layer::Tokens),
                 ),
-                Case(
-                    "two digits",
-                    Before::Html,
-                    300,
-                    Name::Dress,
-                    b"\\'4A",
-                    Outcome::Put(23),
-                ),
+                Case("two digits", HTML, 300, Call::Dress(b"\\'4A"), Ok(23)),
                 Case(
                     "32 letters",
-                    Before::Html,
+                    HTML,
                     300,
-                    Name::Dress,
-                    b"\\aaaaaaaaaaaaaaaaaaaaaaaaaaaaaaaa",
-                    Outcome::Put(52),
+                    Call::Dress(b"\\aaaaaaaaaaaaaaaaaaaaaaaaaaaaaaaa"),
+                    Ok(52),
                 ),
                 Case(
                     "33 letters",
-                    Before::Html,
+                    HTML,
                     300,
-                    Name::Dress,
-                    b"\\aaaaaaaaaaaaaaaaaaaaaaaaaaaaaaaaa",
-                    Outcome::Refused(2, 0, Layer::Tokens),
+                    Call::Dress(b"\\aaaaaaaaaaaaaaaaaaaaaaaaaaaaaaaaa"),
+                    refused(2, 0, Layer::Tokens),
                 ),
                 Case(
                     "ten digits",
-                    Before::Html,
+                    HTML,
                     300,
-                    Name::Dress,
-                    b"\\b2147483647",
-                    Outcome::Put(31),
+                    Call::Dress(b"\\b2147483647"),
+                    Ok(31),
                 ),
                 Case(
                     "eleven digits",
-                    Before::Html,
+                    HTML,
                     300,
-                    Name::Dress,
-                    b"\\b02147483647",
-                    Outcome::Refused(2, 0, Layer::Tokens),
+                    Call::Dress(b"\\b02147483647"),
+                    refused(2, 0, Layer::Tokens),
                 ),
                 Case(
                     "beyond 32 bits",
-                    Before::Html,
+                    HTML,
                     300,
-                    Name::Dress,
-                    b"\\b2147483648",
-                    Outcome::Refused(2, 0, Layer::Tokens),
+                    Call::Dress(b"\\b2147483648"),
+                    refused(2, 0, Layer::Tokens),
                 ),
                 Case(
                     "the least number",
-                    Before::Html,
+                    HTML,
                     300,
-                    Name::Dress,
-                    b"\\b-2147483648",
-                    Outcome::Put(32),
+                    Call::Dress(b"\\b-2147483648"),
+                    Ok(32),
                 ),
                 Case(
                     "below it",
-                    Before::Html,
+                    HTML,
                     300,
-                    Name::Dress,
-                    b"\\b-2147483649",
-                    Outcome::Refused(2, 0, Layer::Tokens),
+                    Call::Dress(b"\\b-2147483649"),
+                    refused(2, 0, Layer::Tokens),
                 ),
             ],
         )
@@ -707,99 +548,81 @@ mod tests {
             &[
                 Case(
                     "the word htmlrtf",
-                    Before::Html,
+                    HTML,
                     300,
-                    Name::Dress,
-                    b"a\\htmlrtf",
-                    Outcome::Refused(15, 1, Layer::Writer),
+                    Call::Dress(b"a\\htmlrtf"),
+                    refused(15, 1, Layer::Writer),
                 ),
                 Case(
                     "the word htmltag",
-                    Before::Html,
+                    HTML,
                     300,
-                    Name::Dress,
-                    b"a\\htmltag",
-                    Outcome::Refused(15, 1, Layer::Writer),
+                    Call::Dress(b"a\\htmltag"),
+                    refused(15, 1, Layer::Writer),
                 ),
                 Case(
                     "the word mhtmltag",
-                    Before::Html,
+                    HTML,
                     300,
-                    Name::Dress,
-                    b"a\\mhtmltag",
-                    Outcome::Refused(15, 1, Layer::Writer),
+                    Call::Dress(b"a\\mhtmltag"),
+                    refused(15, 1, Layer::Writer),
                 ),
                 Case(
                     "the word htmlbase",
-                    Before::Html,
+                    HTML,
                     300,
-                    Name::Dress,
-                    b"a\\htmlbase",
-                    Outcome::Refused(15, 1, Layer::Writer),
+                    Call::Dress(b"a\\htmlbase"),
+                    refused(15, 1, Layer::Writer),
                 ),
                 Case(
                     "the word fromhtml",
-                    Before::Html,
+                    HTML,
                     300,
-                    Name::Dress,
-                    b"a\\fromhtml",
-                    Outcome::Refused(15, 1, Layer::Writer),
+                    Call::Dress(b"a\\fromhtml"),
+                    refused(15, 1, Layer::Writer),
                 ),
                 Case(
                     "the word fromtext",
-                    Before::Html,
+                    HTML,
                     300,
-                    Name::Dress,
-                    b"a\\fromtext",
-                    Outcome::Refused(15, 1, Layer::Writer),
+                    Call::Dress(b"a\\fromtext"),
+                    refused(15, 1, Layer::Writer),
                 ),
                 Case(
                     "the word bin",
-                    Before::Html,
+                    HTML,
                     300,
-                    Name::Dress,
-                    b"a\\bin",
-                    Outcome::Refused(15, 1, Layer::Writer),
+                    Call::Dress(b"a\\bin"),
+                    refused(15, 1, Layer::Writer),
                 ),
                 Case(
                     "with a number",
-                    Before::Html,
+                    HTML,
                     300,
-                    Name::Dress,
-                    b"\\htmlrtf0 ",
-                    Outcome::Refused(15, 0, Layer::Writer),
+                    Call::Dress(b"\\htmlrtf0 "),
+                    refused(15, 0, Layer::Writer),
                 ),
                 Case(
                     "one letter more",
-                    Before::Html,
+                    HTML,
                     300,
-                    Name::Dress,
-                    b"\\htmlrtfx",
-                    Outcome::Put(28),
+                    Call::Dress(b"\\htmlrtfx"),
+                    Ok(28),
                 ),
                 Case(
                     "one letter less",
-                    Before::Html,
+                    HTML,
                     300,
-                    Name::Dress,
-                    b"\\htmlrt",
-                    Outcome::Put(26),
+                    Call::Dress(b"\\htmlrt"),
+                    Ok(26),
                 ),
-                Case(
-                    "in capitals",
-                    Before::Html,
-                    300,
-                    Name::Dress,
-                    b"\\HTMLRTF",
-                    Outcome::Put(27),
-                ),
+                Case("in capitals", HTML, 300, Call::Dress(b"\\HTMLRTF"), Ok(27)),
                 Case(
                     "a word after an escaped backslash",
-                    Before::Html,
+                    HTML,
                     300,
-                    Name::Dress,
-                    b"\\\\htmlrtf",
-                    Outcome::Put(28),
+                    Call::Dress(b"\\\\htmlrtf"),
+                    Ok(28),
                 ),
             ],
         )
@@ -812,92 +635,57 @@ mod tests {
             &[
                 Case(
                     "text without that byte",
-                    Before::Html,
+                    HTML,
                     2,
-                    Name::Text,
-                    b"ab",
-                    Outcome::Refused(24, 0, Layer::Writer),
+                    Call::Text(b"ab"),
+                    refused(24, 0, Layer::Writer),
                 ),
-                Case(
-                    "text with it",
-                    Before::Html,
-                    3,
-                    Name::Text,
-                    b"ab",
-                    Outcome::Put(2),
-                ),
-                Case("no text", Before::Html, 1, Name::Text, b"", Outcome::Put(0)),
+                Case("text with it", HTML, 3, Call::Text(b"ab"), Ok(2)),
+                Case("no text", HTML, 1, Call::Text(b""), Ok(0)),
                 Case(
                     "markup without it",
-                    Before::Html,
+                    HTML,
                     14,
-                    Name::Markup,
-                    b"a",
-                    Outcome::Refused(24, 0, Layer::Writer),
+                    Call::Markup(b"a"),
+                    refused(24, 0, Layer::Writer),
                 ),
-                Case(
-                    "markup with it",
-                    Before::Html,
-                    15,
-                    Name::Markup,
-                    b"a",
-                    Outcome::Put(14),
-                ),
+                Case("markup with it", HTML, 15, Call::Markup(b"a"), Ok(14)),
                 Case(
                     "decoration without it",
-                    Before::Html,
+                    HTML,
                     20,
-                    Name::Dress,
-                    b"a",
-                    Outcome::Refused(24, 0, Layer::Writer),
+                    Call::Dress(b"a"),
+                    refused(24, 0, Layer::Writer),
                 ),
-                Case(
-                    "decoration with it",
-                    Before::Html,
-                    21,
-                    Name::Dress,
-                    b"a",
-                    Outcome::Put(20),
-                ),
+                Case("decoration with it", HTML, 21, Call::Dress(b"a"), Ok(20)),
                 Case(
                     "a spelling without it",
-                    Before::Html,
+                    HTML,
                     4,
-                    Name::Text,
-                    b"\xE2\x82\xAC",
-                    Outcome::Refused(24, 0, Layer::Writer),
+                    Call::Text(b"\xE2\x82\xAC"),
+                    refused(24, 0, Layer::Writer),
                 ),
                 Case(
                     "a spelling with it",
-                    Before::Html,
+                    HTML,
                     5,
-                    Name::Text,
-                    b"\xE2\x82\xAC",
-                    Outcome::Put(4),
+                    Call::Text(b"\xE2\x82\xAC"),
+                    Ok(4),
                 ),
-                Case(
-                    "the brace itself",
-                    Before::Html,
-                    1,
-                    Name::Finish,
-                    b"",
-                    Outcome::Put(1),
-                ),
+                Case("the brace itself", HTML, 1, Call::Finish, Ok(1)),
                 Case(
                     "the next record without it",
-                    Before::Finished,
+                    FINISHED,
                     100,
-                    Name::OpenHtml,
-                    b"",
-                    Outcome::Refused(24, 0, Layer::Writer),
+                    Call::Open(Kind::Html),
+                    refused(24, 0, Layer::Writer),
                 ),
                 Case(
                     "the next record with it",
-                    Before::Finished,
+                    FINISHED,
                     101,
-                    Name::OpenHtml,
-                    b"",
-                    Outcome::Put(100),
+                    Call::Open(Kind::Html),
+                    Ok(100),
                 ),
             ],
         )
@@ -910,148 +698,133 @@ mod tests {
             &[
                 Case(
                     "no record before a broken piece",
-                    Before::Nothing,
+                    NOTHING,
                     300,
-                    Name::Text,
-                    b"\xFF",
-                    Outcome::Refused(21, 0, Layer::Writer),
+                    Call::Text(b"\xFF"),
+                    refused(21, 0, Layer::Writer),
                 ),
                 Case(
                     "no record before a marker",
-                    Before::Nothing,
+                    NOTHING,
                     300,
-                    Name::Dress,
-                    b"\\bin",
-                    Outcome::Refused(21, 0, Layer::Writer),
+                    Call::Dress(b"\\bin"),
+                    refused(21, 0, Layer::Writer),
                 ),
                 Case(
                     "an open record before the space",
-                    Before::Html,
+                    HTML,
                     1,
-                    Name::OpenHtml,
-                    b"",
-                    Outcome::Refused(22, 0, Layer::Writer),
+                    Call::Open(Kind::Html),
+                    refused(22, 0, Layer::Writer),
                 ),
                 Case(
                     "a text before a broken piece",
-                    Before::Text,
+                    TEXT,
                     300,
-                    Name::Markup,
-                    b"\xFF",
-                    Outcome::Refused(23, 0, Layer::Writer),
+                    Call::Markup(b"\xFF"),
+                    refused(23, 0, Layer::Writer),
                 ),
                 Case(
                     "a text before a marker",
-                    Before::Text,
+                    TEXT,
                     300,
-                    Name::Dress,
-                    b"\\bin",
-                    Outcome::Refused(23, 0, Layer::Writer),
+                    Call::Dress(b"\\bin"),
+                    refused(23, 0, Layer::Writer),
                 ),
                 Case(
                     "a broken piece before the space",
-                    Before::Html,
+                    HTML,
                     1,
-                    Name::Text,
-                    b"ab\xFF",
-                    Outcome::Refused(13, 2, Layer::Writer),
+                    Call::Text(b"ab\xFF"),
+                    refused(13, 2, Layer::Writer),
                 ),
                 Case(
                     "a marker before the space",
-                    Before::Html,
+                    HTML,
                     1,
-                    Name::Dress,
-                    b"\\bin",
-                    Outcome::Refused(15, 0, Layer::Writer),
+                    Call::Dress(b"\\bin"),
+                    refused(15, 0, Layer::Writer),
                 ),
                 Case(
                     "a marker before its long number",
-                    Before::Html,
+                    HTML,
                     300,
-                    Name::Dress,
-                    b"\\htmlrtf99999999999",
-                    Outcome::Refused(15, 0, Layer::Writer),
+                    Call::Dress(b"\\htmlrtf99999999999"),
+                    refused(15, 0, Layer::Writer),
                 ),
                 Case(
                     "a marker before its missing bytes",
-                    Before::Html,
+                    HTML,
                     300,
-                    Name::Dress,
-                    b"\\bin5 x",
-                    Outcome::Refused(15, 0, Layer::Writer),
+                    Call::Dress(b"\\bin5 x"),
+                    refused(15, 0, Layer::Writer),
                 ),
                 Case(
                     "a faulty word before a marker after it",
-                    Before::Html,
+                    HTML,
                     300,
-                    Name::Dress,
-                    b"\\b99999999999\\bin",
-                    Outcome::Refused(2, 0, Layer::Tokens),
+                    Call::Dress(b"\\b99999999999\\bin"),
+                    refused(2, 0, Layer::Tokens),
                 ),
                 Case(
                     "what is not printable before a marker",
-                    Before::Html,
+                    HTML,
                     300,
-                    Name::Dress,
-                    b"\\bin\x7F",
-                    Outcome::Refused(16, 4, Layer::Writer),
+                    Call::Dress(b"\\bin\x7F"),
+                    refused(16, 4, Layer::Writer),
                 ),
                 Case(
                     "and before a faulty word",
-                    Before::Html,
+                    HTML,
                     300,
-                    Name::Dress,
-                    b"\\'4g\t",
-                    Outcome::Refused(16, 4, Layer::Writer),
+                    Call::Dress(b"\\'4g\t"),
+                    refused(16, 4, Layer::Writer),
                 ),
                 Case(
                     "and before a brace too many",
-                    Before::Html,
+                    HTML,
                     300,
-                    Name::Dress,
-                    b"}\x1F",
-                    Outcome::Refused(16, 1, Layer::Writer),
+                    Call::Dress(b"}\x1F"),
+                    refused(16, 1, Layer::Writer),
                 ),
                 Case(
                     "a brace too many before a marker after it",
-                    Before::Html,
+                    HTML,
                     300,
-                    Name::Dress,
-                    b"}\\bin",
-                    Outcome::Refused(14, 0, Layer::Groups),
+                    Call::Dress(b"}\\bin"),
+                    refused(14, 0, Layer::Groups),
                 ),
                 Case(
                     "a marker before a group left open",
-                    Before::Html,
+                    HTML,
                     300,
-                    Name::Dress,
-                    b"{\\bin",
-                    Outcome::Refused(15, 1, Layer::Writer),
+                    Call::Dress(b"{\\bin"),
+                    refused(15, 1, Layer::Writer),
                 ),
                 Case(
                     "a faulty word before a group left open",
-                    Before::Html,
+                    HTML,
                     300,
-                    Name::Dress,
-                    b"{\\",
-                    Outcome::Refused(2, 1, Layer::Tokens),
+                    Call::Dress(b"{\\"),
+                    refused(2, 1, Layer::Tokens),
                 ),
                 Case(
                     "a group too deep before one left open",
-                    Before::Html,
+                    HTML,
                     300,
-                    Name::Dress,
-                    b"{{{{{{{{{{{{{{{{{{{{{{{{{{{{{{{{{{{{{{{{{{{{{{{{{{{{{{{{{{{{{{{{",
-                    Outcome::Refused(3, 63, Layer::Groups),
+                    Call::Dress(
+                        b"{{{{{{{{{{{{{{{{{{{{{{{{{{{{{{{{{{{{{{{{{{{{{{{{{{{{{{{{{{{{{{{{",
+                    ),
+                    refused(3, 63, Layer::Groups),
                 ),
             ],
         )
     }
 
-    // What a case shows, how many bytes the open record has, the space that is left, the call with its piece, and what comes
+    // What a case shows, how many bytes the open record has, the space that is left, the call, and what comes
     // of it.
     #[derive(Clone, Copy)]
-    struct Edge(&'static str, usize, usize, Name, &'static [u8], Outcome);
+    struct Edge(&'static str, usize, usize, Call<'static>, Told);
 
     // Makes an open record as long as is asked.
     fn fill<P: CodePage, S: Sink>(
@@ -1067,21 +840,18 @@ mod tests {
     }
 
     fn check_edge(rt: &impl Abort, edge: &Edge) -> Result<(), Fail> {
-        let Edge(shows, length, space, name, piece, outcome) = *edge;
+        let Edge(shows, length, space, call, told) = *edge;
         let size = length.saturating_add(space);
         assert!(rt; size <= LARGE);
         let mut room = [0; LARGE];
         let mut writer = Writer::new(Windows1252, BufferSink::new(&mut room[0..size]));
         fill(rt, &mut writer, length)?;
-        check_call(rt, shows, &mut writer, name, piece, outcome);
+        check_call(rt, shows, &mut writer, call, told);
         Ok(())
     }
 
     fn check_edges(rt: &impl Abort, edges: &[Edge]) -> Result<(), Fail> {
-        for edge in edges {
-            check_edge(rt, edge)?;
-        }
-        Ok(())
+        edges.iter().try_for_each(|edge| check_edge(rt, edge))
     }
 
     #[test]
@@ -1089,155 +859,129 @@ mod tests {
         check_edges(
             &rt,
             &[
-                Edge(
-                    "five letters",
-                    32_762,
-                    200,
-                    Name::Text,
-                    b"xxxxx",
-                    Outcome::Put(5),
-                ),
+                Edge("five letters", 32_762, 200, Call::Text(b"xxxxx"), Ok(5)),
                 Edge(
                     "six letters",
                     32_762,
                     200,
-                    Name::Text,
-                    b"xxxxxx",
-                    Outcome::Refused(25, 0, Layer::Writer),
+                    Call::Text(b"xxxxxx"),
+                    refused(25, 0, Layer::Writer),
                 ),
                 Edge(
                     "markup that just fits",
                     32_753,
                     200,
-                    Name::Markup,
-                    b"x",
-                    Outcome::Put(14),
+                    Call::Markup(b"x"),
+                    Ok(14),
                 ),
                 Edge(
                     "markup that does not",
                     32_754,
                     200,
-                    Name::Markup,
-                    b"x",
-                    Outcome::Refused(25, 0, Layer::Writer),
+                    Call::Markup(b"x"),
+                    refused(25, 0, Layer::Writer),
                 ),
                 Edge(
                     "decoration that just fits",
                     32_747,
                     200,
-                    Name::Dress,
-                    b"x",
-                    Outcome::Put(20),
+                    Call::Dress(b"x"),
+                    Ok(20),
                 ),
                 Edge(
                     "decoration that does not",
                     32_748,
                     200,
-                    Name::Dress,
-                    b"x",
-                    Outcome::Refused(25, 0, Layer::Writer),
+                    Call::Dress(b"x"),
+                    refused(25, 0, Layer::Writer),
                 ),
                 Edge(
                     "a spelling that just fits",
                     32_760,
                     200,
-                    Name::Text,
-                    b"\xD0\x96",
-                    Outcome::Put(7),
+                    Call::Text(b"\xD0\x96"),
+                    Ok(7),
                 ),
                 Edge(
                     "a spelling that does not",
                     32_761,
                     200,
-                    Name::Text,
-                    b"\xD0\x96",
-                    Outcome::Refused(25, 0, Layer::Writer),
+                    Call::Text(b"\xD0\x96"),
+                    refused(25, 0, Layer::Writer),
                 ),
                 Edge(
                     "no text in a full record",
                     32_767,
                     200,
-                    Name::Text,
-                    b"",
-                    Outcome::Put(0),
+                    Call::Text(b""),
+                    Ok(0),
                 ),
                 Edge(
                     "a letter in a full record",
                     32_767,
                     200,
-                    Name::Text,
-                    b"x",
-                    Outcome::Refused(25, 0, Layer::Writer),
+                    Call::Text(b"x"),
+                    refused(25, 0, Layer::Writer),
                 ),
-                Edge(
-                    "the end of a full record",
-                    32_767,
-                    1,
-                    Name::Finish,
-                    b"",
-                    Outcome::Put(1),
-                ),
+                Edge("the end of a full record", 32_767, 1, Call::Finish, Ok(1)),
                 Edge(
                     "the limit before the space",
                     32_767,
                     1,
-                    Name::Text,
-                    b"x",
-                    Outcome::Refused(25, 0, Layer::Writer),
+                    Call::Text(b"x"),
+                    refused(25, 0, Layer::Writer),
                 ),
                 Edge(
                     "the space where the limit is not met",
                     32_765,
                     2,
-                    Name::Text,
-                    b"xx",
-                    Outcome::Refused(24, 0, Layer::Writer),
+                    Call::Text(b"xx"),
+                    refused(24, 0, Layer::Writer),
                 ),
                 Edge(
                     "a broken piece before the limit",
                     32_767,
                     200,
-                    Name::Text,
-                    b"x\xFF",
-                    Outcome::Refused(13, 1, Layer::Writer),
+                    Call::Text(b"x\xFF"),
+                    refused(13, 1, Layer::Writer),
                 ),
                 Edge(
                     "broken markup before the limit",
                     32_767,
                     200,
-                    Name::Markup,
-                    b"\xFF",
-                    Outcome::Refused(13, 0, Layer::Writer),
+                    Call::Markup(b"\xFF"),
+                    refused(13, 0, Layer::Writer),
                 ),
                 Edge(
                     "a marker before the limit",
                     32_767,
                     200,
-                    Name::Dress,
-                    b"\\bin",
-                    Outcome::Refused(15, 0, Layer::Writer),
+                    Call::Dress(b"\\bin"),
+                    refused(15, 0, Layer::Writer),
                 ),
                 Edge(
                     "what is not printable before the limit",
                     32_767,
                     200,
-                    Name::Dress,
-                    b"\t",
-                    Outcome::Refused(16, 0, Layer::Writer),
+                    Call::Dress(b"\t"),
+                    refused(16, 0, Layer::Writer),
                 ),
                 Edge(
                     "a group left open before the limit",
                     32_767,
                     200,
-                    Name::Dress,
-                    b"{",
-                    Outcome::Refused(14, 0, Layer::Groups),
+                    Call::Dress(b"{"),
+                    refused(14, 0, Layer::Groups),
                 ),
             ],
         )
     }
 
-    const TOO_LONG: Outcome = Outcome::Refused(25, 0, Layer::Writer);
+    const TOO_LONG: Told = Err(Refusal {
+        number: 25,
+        place: 0,
+        layer: Layer::Writer,
+    });
 
     // Calls on a record to which five bytes are left: those that are refused do not count.
     fn check_last_calls<P: CodePage, S: Sink>(rt: &impl Abort, writer: &mut Writer<P, S>) {
@@ -1245,73 +989,58 @@ mod tests {
             rt,
             "a record at its limit",
             writer,
-            Name::Text,
-            b"xxxxxx",
+            Call::Text(b"xxxxxx"),
             TOO_LONG,
         );
         check_call(
             rt,
             "a record at its limit",
             writer,
-            Name::OpenHtml,
-            b"",
-            Outcome::Refused(22, 0, Layer::Writer),
+            Call::Open(Kind::Html),
+            refused(22, 0, Layer::Writer),
         );
         check_call(
             rt,
             "a record at its limit",
             writer,
-            Name::Markup,
-            b"\xFF",
-            Outcome::Refused(13, 0, Layer::Writer),
+            Call::Markup(b"\xFF"),
+            refused(13, 0, Layer::Writer),
         );
         check_call(
             rt,
             "a record at its limit",
             writer,
-            Name::Dress,
-            b"\\bin",
-            Outcome::Refused(15, 0, Layer::Writer),
+            Call::Dress(b"\\bin"),
+            refused(15, 0, Layer::Writer),
         );
         check_call(
             rt,
             "a record at its limit",
             writer,
-            Name::Dress,
-            b"",
+            Call::Dress(b""),
             TOO_LONG,
         );
         check_call(
             rt,
             "a record at its limit",
             writer,
-            Name::Text,
-            b"xxxxx",
-            Outcome::Put(5),
+            Call::Text(b"xxxxx"),
+            Ok(5),
         );
         check_call(
             rt,
             "a record at its limit",
             writer,
-            Name::Text,
-            b"x",
+            Call::Text(b"x"),
             TOO_LONG,
         );
+        check_call(rt, "a record at its limit", writer, Call::Finish, Ok(1));
         check_call(
             rt,
             "a record at its limit",
             writer,
-            Name::Finish,
-            b"",
-            Outcome::Put(1),
-        );
-        check_call(
-            rt,
-            "a record at its limit",
-            writer,
-            Name::Finish,
-            b"",
-            Outcome::Refused(21, 0, Layer::Writer),
+            Call::Finish,
+            refused(21, 0, Layer::Writer),
         );
     }
 
@@ -1339,24 +1068,16 @@ mod tests {
         let Spelled(shows, piece, put) = *spelled;
         let mut room = [0; ROOM];
         let mut writer = Writer::new(Windows1252, BufferSink::new(&mut room));
-        prepare(&mut writer, Before::Text)?;
-        check_call(
-            rt,
-            shows,
-            &mut writer,
-            Name::Text,
-            piece,
-            Outcome::Put(put.len()),
-        );
+        prepare(&mut writer, TEXT)?;
+        check_call(rt, shows, &mut writer, Call::Text(piece), Ok(put.len()));
         check_typed(rt, shows, writer.into_sink().into_written(), put);
         Ok(())
     }
 
     fn check_spellings(rt: &impl Abort, spellings: &[Spelled]) -> Result<(), Fail> {
-        for spelled in spellings {
-            check_spelled(rt, spelled)?;
-        }
-        Ok(())
+        spellings
+            .iter()
+            .try_for_each(|spelled| check_spelled(rt, spelled))
     }
 
     #[test]
@@ -1404,22 +1125,20 @@ mod tests {
     fn a_line_break_over_two_pieces_is_none(rt: HostRuntime) -> Result<(), Fail> {
         let mut room = [0; ROOM];
         let mut writer = Writer::new(Windows1252, BufferSink::new(&mut room));
-        prepare(&mut writer, Before::Text)?;
+        prepare(&mut writer, TEXT)?;
         check_call(
             &rt,
             "CR LF in two pieces",
             &mut writer,
-            Name::Text,
-            b"\r",
-            Outcome::Put(4),
+            Call::Text(b"\r"),
+            Ok(4),
         );
         check_call(
             &rt,
             "CR LF in two pieces",
             &mut writer,
-            Name::Text,
-            b"\n",
-            Outcome::Put(4),
+            Call::Text(b"\n"),
+            Ok(4),
         );
         check_typed(
             &rt,
@@ -1442,50 +1161,38 @@ mod tests {
             &rt,
             "a whole record",
             &mut writer,
-            Name::OpenHtml,
-            b"",
-            Outcome::Put(100),
+            Call::Open(Kind::Html),
+            Ok(100),
         );
         check_call(
             &rt,
             "a whole record",
             &mut writer,
-            Name::Markup,
-            b"<p>",
-            Outcome::Put(16),
+            Call::Markup(b"<p>"),
+            Ok(16),
         );
         check_call(
             &rt,
             "a whole record",
             &mut writer,
-            Name::Text,
-            b"\xE2\x82\xAC5 {a}",
-            Outcome::Put(11),
+            Call::Text(b"\xE2\x82\xAC5 {a}"),
+            Ok(11),
         );
         check_call(
             &rt,
             "a whole record",
             &mut writer,
-            Name::Dress,
-            b"\\b ",
-            Outcome::Put(22),
+            Call::Dress(b"\\b "),
+            Ok(22),
         );
         check_call(
             &rt,
             "a whole record",
             &mut writer,
-            Name::Markup,
-            b"</p>",
-            Outcome::Put(17),
+            Call::Markup(b"</p>"),
+            Ok(17),
         );
-        check_call(
-            &rt,
-            "a whole record",
-            &mut writer,
-            Name::Finish,
-            b"",
-            Outcome::Put(1),
-        );
+        check_call(&rt, "a whole record", &mut writer, Call::Finish, Ok(1));
         let archive = writer.into_sink().into_written();
         assert!(rt; archive.len() == 167);
         assert!(rt; &archive[0..100] == HEADER);

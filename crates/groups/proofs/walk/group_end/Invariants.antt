@@ -5,8 +5,8 @@ use Rattle.groups.specs.Groups.{closing, group_end}
 use Rattle.groups.proofs.walk.group_end.Given as goal
 
 -- from here the walk ends as it does from its start
-abbrev pub invariant-loop-found : goal.invariant-loop-found
-invariant-loop-found l = (l.at ≤ length l.bytes) × (l.place < l.at) × (length l.stack.entries.now ≡ 64) × (closing (held l.stack.depth l.stack.entries.now) (items 0 l.at (drop l.at l.bytes)) ≡ group_end l.place l.bytes)
+abbrev pub invariant-loop-brace : goal.invariant-loop-brace
+invariant-loop-brace l = (l.at ≤ length l.bytes) × (l.place < l.at) × (length l.stack.entries.now ≡ 64) × (closing (held l.stack.depth l.stack.entries.now) (items 0 l.at (drop l.at l.bytes)) ≡ group_end l.place l.bytes)
 
-abbrev pub decreases-loop-found : goal.decreases-loop-found
-decreases-loop-found l = length l.bytes - l.at
+abbrev pub decreases-loop-brace : goal.decreases-loop-brace
+decreases-loop-brace l = length l.bytes - l.at

@@ -1,7 +1,7 @@
 use Rattle.std.proofs.Common.{◌≡◌, ℕ, List, length}
 use lib.Utf8.{encodes}
 use Rattle.reader.specs.Content.{before, characters}
-use Rattle.reader.specs.Guarded.{Holds}
+use Rattle.reader.specs.Guarded.{Holds, Keeps}
 use Rattle.reader.specs.Walk.{to_come}
 use Rattle.reader.proofs.reading.put_content.Given as goal
 
@@ -10,9 +10,7 @@ pub record Inv (g : goal.Over) (l : goal.Live-loop-placed g) : Type 0 where
   pub done : List ℕ
   pub held : Holds (encodes done) l.out
   pub on : before done (characters (g.P.CodePage.decoded l.page) l.waiting (to_come l.effects)) ≡ characters (g.P.CodePage.decoded l.page) l.initial.waiting (to_come l.initial.effects)
-  pub same : l.out.bytes.ghost_name ≡ l.initial.out.bytes.ghost_name
-  pub len : length l.out.bytes.now ≡ length l.initial.out.bytes.now
-  pub accepted : l.out.accepted ≡ l.initial.out.accepted
+  pub keeps : Keeps l.initial.out l.out
 
 abbrev pub invariant-loop-placed : goal.invariant-loop-placed
 invariant-loop-placed g l = Inv g l

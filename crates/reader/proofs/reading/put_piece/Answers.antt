@@ -5,13 +5,8 @@ use Rattle.std.proofs.lemmas.Str.{encodes-chars}
 use Rattle.reader.specs.Pieces.{characters_of}
 use Rattle.reader.proofs.reading.put_piece.Goals as goal
 
-pub returns-in-Text : goal.returns-in-Text
-returns-in-Text c =
+pub returns-in-Text-clause-value : goal.returns-in-Text-clause-value
+returns-in-Text-clause-value c =
     let told = c.as_bytes-in-Text.ensures in
     let same : encodes (characters_of c.args.piece) ≡ c.as_bytes-in-Text.result.now = ap (λ p. encodes (characters_of p)) c.in-Text.is ∙ ap (λ b. encodes (chars b)) (sym told.value) ∙ encodes-chars _ told.utf8 in
-    record {
-      value = λ content held. rw (same) (c.push-in-Text.ensures.value content held);
-      same = c.push-in-Text.ensures.same;
-      len = c.push-in-Text.ensures.len;
-      accepted = c.push-in-Text.ensures.accepted;
-    }
+    λ content held. rw (same) (c.push-in-Text.ensures.value content held)

@@ -1,12 +1,17 @@
-use Rattle.std.proofs.Common.{sym, ◌∙◌}
-use Rattle.reader.proofs.Checks.{trailing_more, trailing_stop, trailing_none}
+use Rattle.std.proofs.Common.{◌≡◌, not, drop, position, sym, ap, ◌∙◌}
+use Rattle.std.proofs.lemmas.List.{take_rest}
+use Rattle.reader.specs.Reading.{may_trail, trailing}
+use Rattle.reader.proofs.Checks.{told_trailing, trailing_is}
 use Rattle.reader.proofs.sound.check_trailing.Goals as goal
+use Rattle.reader.proofs.sound.check_trailing.Goals.{After-first_trailing}
 
-pub returns-then-not-may_trail : goal.returns-then-not-may_trail
-returns-then-not-may_trail c = sym (trailing_stop c.args.bytes.now c.loop-at.at c.loop-at-test.true (sym c.if-not-may_trail.ensures)) ∙ c.loop-at.invariant
+by : (c : After-first_trailing) → told_trailing c.args.from c.first_trailing.result ≡ trailing c.args.from (drop c.args.from c.args.bytes.now)
+by c =
+    ap (told_trailing c.args.from) (c.first_trailing.ensures.value ∙ ap (position (λ b. not (may_trail b))) (take_rest c.args.bytes.now c.args.from))
+    ∙ sym (trailing_is c.args.from (drop c.args.from c.args.bytes.now))
 
-pub loop-at-preserved : goal.loop-at-preserved
-loop-at-preserved c = sym (trailing_more c.args.bytes.now c.loop-at.at c.loop-at-test.true (sym c.if-not-may_trail.ensures)) ∙ c.loop-at.invariant
+pub returns-in-Some : goal.returns-in-Some
+returns-in-Some c = ap (told_trailing c.args.from) (sym c.in-Some.is) ∙ by (goal.at.returns-in-Some c).After-first_trailing
 
-pub returns : goal.returns
-returns c = sym (trailing_none c.args.bytes.now c.loop-at.at c.loop-at-test.false) ∙ c.loop-at.invariant
+pub returns-in-None : goal.returns-in-None
+returns-in-None c = ap (told_trailing c.args.from) (sym c.in-None.is) ∙ by (goal.at.returns-in-None c).After-first_trailing

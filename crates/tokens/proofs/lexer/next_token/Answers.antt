@@ -1,28 +1,35 @@
-use Rattle.std.proofs.Common.{sym, ◌∙◌, arith}
-use Rattle.std.proofs.lemmas.List.{at_drop_all}
-use Rattle.std.proofs.lemmas.Result.{err_from_is_err_and}
-use Rattle.tokens.specs.Tokens.{next}
+use Rattle.std.proofs.Common.{◌+◌, ◌-◌, None, length, drop, take, sym, ap, ◌∙◌}
+use Rattle.std.proofs.lemmas.List.{take_rest}
+use Rattle.tokens.specs.Tokens.{next, next_by}
 use Rattle.tokens.proofs.Steps.{next_end, byte_here, next_here}
 use Rattle.tokens.proofs.lexer.next_token.Goals as goal
 
-pub returns-then-at-bytes : goal.returns-then-at-bytes
-returns-then-at-bytes c = record { value = sym (at_drop_all (next c.args.at) c.args.bytes.now c.args.at c.if-at-bytes.true); bound = tt }
+pub returns-in_default-clause-value : goal.returns-in_default-clause-value
+returns-in_default-clause-value c =
+    let at = c.args.at in
+    let given = take (length c.args.bytes.now - at) (drop at c.args.bytes.now) in
+    let n = c.run_length-skipped.result in
+    sym (ap (next at) (sym (take_rest c.args.bytes.now at)) ∙ next_end at n given c.run_length-skipped.ensures.value (ap length (sym (take_rest given n)) ∙ c.in_default.ensures.cases))
 
-pub returns-then-place-bytes : goal.returns-then-place-bytes
-returns-then-place-bytes c = record { value = sym (next_end c.args.bytes.now c.args.at c.run_end-place.result c.run_end-place.ensures.value c.if-place-bytes.true); bound = tt }
+pub front-requires : goal.front-requires
+front-requires c =
+    let at = c.args.at in
+    let given = take (length c.args.bytes.now - at) (drop at c.args.bytes.now) in
+    let n = c.run_length-skipped.result in
+    byte_here at n given c.run_length-skipped.ensures.value c.in-Some.first.now c.in-Some.rest.now (sym (take_rest given n) ∙ c.in-Some.ensures.cases.0)
 
-pub token_at-requires : goal.token_at-requires
-token_at-requires c = record { within = c.if-place-bytes.false; solid = byte_here c.args.bytes.now c.args.at c.run_end-place.result c.run_end-place.ensures.value c.if-place-bytes.false }
+pub returns-in-Ok-clause-value : goal.returns-in-Ok-clause-value
+returns-in-Ok-clause-value c =
+    let at = c.args.at in
+    let given = take (length c.args.bytes.now - at) (drop at c.args.bytes.now) in
+    let n = c.run_length-skipped.result in
+    let e = next_here at n given c.run_length-skipped.ensures.value c.in-Some.first.now c.in-Some.rest.now (sym (take_rest given n) ∙ c.in-Some.ensures.cases.0) in
+    ap (λ f. next_by (at + n) f None) c.in-Ok.ensures.value ∙ sym (ap (next at) (sym (take_rest c.args.bytes.now at)) ∙ e)
 
-pub returns-in_err-token_at : goal.returns-in_err-token_at
-returns-in_err-token_at c =
-    let p = err_from_is_err_and c.from_residual.result c.from_residual.ensures.1 in
-    let e = next_here c.args.bytes.now c.args.at c.run_end-place.result c.run_end-place.ensures.value c.if-place-bytes.false in
-    let fits = c.in_err-token_at.ensures.bound in
-    rw (p.1, p.2) (record { value = c.in_err-token_at.ensures.value ∙ sym e; bound = (omega (arith, fits, c.run_end-place.ensures.value), omega (arith, fits, c.if-place-bytes.false)) })
-
-pub returns : goal.returns
-returns c =
-    let e = next_here c.args.bytes.now c.args.at c.run_end-place.result c.run_end-place.ensures.value c.if-place-bytes.false in
-    let fits = c.in_ok-token_at.ensures.bound in
-    record { value = c.in_ok-token_at.ensures.value ∙ sym e; bound = (omega (arith, fits.0, c.run_end-place.ensures.value), omega (arith, fits.0, fits.1), fits.2) }
+pub returns-in-Err-clause-value : goal.returns-in-Err-clause-value
+returns-in-Err-clause-value c =
+    let at = c.args.at in
+    let given = take (length c.args.bytes.now - at) (drop at c.args.bytes.now) in
+    let n = c.run_length-skipped.result in
+    let e = next_here at n given c.run_length-skipped.ensures.value c.in-Some.first.now c.in-Some.rest.now (sym (take_rest given n) ∙ c.in-Some.ensures.cases.0) in
+    ap (λ f. next_by (at + n) f None) c.in-Err.ensures.value ∙ sym (ap (next at) (sym (take_rest c.args.bytes.now at)) ∙ e)

@@ -10,8 +10,8 @@ overflow_mul-n c =
     let small : length (take c.loop-d.d-index c.args.digits.now) ≤ 10 = simp length-take (omega arith) in
     omega (arith, value_few (take c.loop-d.d-index c.args.digits.now) (digits_take _ c.loop-d.d-index c.requires.digits) small)
 
-pub overflow_sub-n : goal.overflow_sub-n
-overflow_sub-n c = (digit_from_value (get_or c.args.digits.now c.loop-d.d-index 0) (digits_at c.args.digits.now c.loop-d.d-index c.requires.digits c.loop-d-test.true)).0
+pub overflow_sub-d : goal.overflow_sub-d
+overflow_sub-d c = (digit_from_value (get_or c.args.digits.now c.loop-d.d-index 0) (digits_at c.args.digits.now c.loop-d.d-index c.requires.digits c.loop-d-test.true)).0
 
 pub overflow_add-n : goal.overflow_add-n
 overflow_add-n c =

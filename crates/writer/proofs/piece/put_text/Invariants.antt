@@ -1,12 +1,17 @@
+use Rattle.std.proofs.Common.{◌≡◌, ◌+◌, ◌++◌, length}
+use Rattle.std.specs.List.{flat_map}
 use Rattle.std.specs.Str.{chars}
-use Rattle.writer.specs.Spelling.{spelled_all}
-use Rattle.writer.proofs.Puts.{Walked}
+use Rattle.writer.specs.Spelling.{spelled_key, spelled_all}
+use Rattle.writer.specs.Shown.{keys_left}
 use Rattle.writer.proofs.piece.put_text.Given as goal
 
-abbrev pub invariant-loop-character : goal.invariant-loop-character
-invariant-loop-character g l =
-    let it = goal.iterator-loop-character g in
-    let m = g.S.Sink in
+-- What the sink holds, and the spelling of the keys to come, are all; and its space is for what is to come.
+abbrev pub invariant-loop-key : goal.invariant-loop-key
+invariant-loop-key g l =
     let encoded = g.P.CodePage.encoded l.page in
-    it.can_next l.character-iterator × it.is_finite l.character-iterator
-    × Walked encoded (m.held l.initial.sink) (spelled_all encoded (chars l.text)) (m.space l.initial.sink) l.character-iterator.rest.now (m.held l.sink) (m.space l.sink) l.waiting
+    let whole = spelled_all encoded (chars l.text) in
+    let rest = flat_map (spelled_key encoded) (keys_left l.key-iterator) in
+    record {
+      bytes : g.S.Sink.held l.sink ++ rest ≡ g.S.Sink.held l.initial.sink ++ whole;
+      left : g.S.Sink.space l.sink + length whole ≡ g.S.Sink.space l.initial.sink + length rest;
+    }

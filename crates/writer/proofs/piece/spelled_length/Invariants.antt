@@ -1,12 +1,15 @@
-use Rattle.std.proofs.Common.{◌≤◌}
+use Rattle.std.proofs.Common.{◌≡◌, ◌+◌, ◌≤◌, length}
+use Rattle.std.specs.List.{flat_map}
 use Rattle.std.specs.Str.{chars}
-use Rattle.writer.specs.Spelling.{spelled_all}
-use Rattle.writer.proofs.Puts.{Counted}
+use Rattle.writer.specs.Spelling.{spelled_key, spelled_all}
+use Rattle.writer.specs.Shown.{keys_left}
 use Rattle.writer.proofs.piece.spelled_length.Given as goal
 
-abbrev pub invariant-loop-character : goal.invariant-loop-character
-invariant-loop-character g l =
-    let it = goal.iterator-loop-character g in
+-- The bytes so far, and those of the keys to come, are all.
+abbrev pub invariant-loop-key : goal.invariant-loop-key
+invariant-loop-key g l =
     let encoded = g.P.CodePage.encoded l.page in
-    it.can_next l.character-iterator × it.is_finite l.character-iterator × (l.total ≤ l.most)
-    × Counted encoded (spelled_all encoded (chars l.text)) l.character-iterator.rest.now l.total l.waiting
+    record {
+      most : l.total ≤ l.most;
+      bytes : l.total + length (flat_map (spelled_key encoded) (keys_left l.key-iterator)) ≡ length (spelled_all encoded (chars l.text));
+    }

@@ -3,7 +3,6 @@ use Rattle.std.proofs.lemmas.Bool.{and_left, and_right}
 use Rattle.tokens.specs.Shown.{shown}
 use Rattle.reader.specs.Rules.{tag_next}
 use Rattle.reader.specs.Walk.{rest}
-use Rattle.reader.specs.Words.{is_htmltag}
 use Rattle.reader.proofs.Walks.{ended_tag, tag_good}
 use Rattle.reader.proofs.walk.Effects.tag_next.Goals as goal
 
@@ -15,7 +14,7 @@ returns-in-Some c =
     let s = c.args.self.now in
     let f = c.in-Some.found in
     let fits = c.in-Some.ensures.bound in
-    c.is_htmltag.ensures ∙ ap is_htmltag c.means.ensures ∙ sym (ap (λ b. b && tag_next (rest s)) (sym c.if-not-is_star.ensures) ∙ tag_good s.bytes.now s.at (shown f.token) f.place f.end (omega (arith, fits.0, fits.1)) c.in-Some.ensures.value)
+    c.is_htmltag.ensures ∙ sym (ap (λ b. b && tag_next (rest s)) (sym c.if-not-is_star.ensures) ∙ tag_good s.bytes.now s.at (shown f.token) f.place f.end (omega (arith, fits.0, fits.1)) c.in-Some.ensures.value)
 
 pub returns-in-None : goal.returns-in-None
 returns-in-None c =

@@ -1,13 +1,13 @@
-use Rattle.std.proofs.Common.{◌≡◌, ◌++◌, length, drop, ap, ◌∙◌, rules}
-use Rattle.std.specs.List.{flat_map}
-use Rattle.sinks.specs.Pile.{front, loaded, zeros}
-use Rattle.layers.proofs.Copies.{over_zeros}
+use Rattle.std.proofs.Common.{length, arith, rules}
+use Rattle.sinks.proofs.Piles.{card_fits, all_copied}
 use Rattle.sinks.proofs.cards.CardSink.unload.Goals as goal
+
+pub slice_bounds-copy_from_slice-end : goal.slice_bounds-copy_from_slice-end
+slice_bounds-copy_from_slice-end c =
+    let s = c.args.self.now in
+    omega (arith, card_fits s.at s.cards.now c.begun-card-items.result.now c.loop-place.place c.count-count.result (length c.loop-place.out) c.bytes-bytes.result.now c.begun-card-items.ensures c.loop-place-test.true c.bytes-bytes.ensures.value (c.loop-place.invariant.0 c.loop-place-test.true) c.count-count.ensures (omega arith))
 
 pub returns : goal.returns
 returns c =
-    let before = c.fill.new.self in
-    let size = length c.args.out.now in
-    let wiped : before ≡ zeros size = search rules in
-    let copied = c.copy_bytes.ensures ∙ ap (λ l. flat_map front l ++ drop (length (flat_map front l)) before) c.begun.ensures in
-    record { cases = (c.count-count.ensures, over_zeros (loaded c.args.self.now) c.copy_bytes.new.out before size c.count-count.result c.count-count.ensures wiped copied) }
+    let s = c.args.self.now in
+    record { cases = (c.count-count.ensures, all_copied s.at s.cards.now c.begun-card-items.result.now c.loop-place.place c.count-count.result _ c.loop-place.out _ c.begun-card-items.ensures c.loop-place-test.false (search rules) c.count-count.ensures c.loop-place.invariant.1) }
