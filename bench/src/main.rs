@@ -55,6 +55,8 @@ fn main() {
         ("words", "\\par\\b0\\fs24 x\\endash "),
         ("short words", "\\b"),
         ("groups", "{}"),
+        ("text in turn", "a{}"),
+        ("symbols", "\\~"),
         ("suppressed", "{\\htmlrtf \\b x\\htmlrtf0 y}"),
     ];
     let mut one = vec![0; 98_304];
