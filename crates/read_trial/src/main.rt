@@ -123,7 +123,7 @@ fn main(rt: HostRuntime) -> io::Result<()> {
     Trial::new(&rt, &mut dice, &mut tally, &Windows1252)?.run()?;
     Trial::new(&rt, &mut dice, &mut tally, &Windows1251)?.run()?;
     Trial::new(&rt, &mut dice, &mut tally, &Ascii20127)?.run()?;
-    let records = tally.answers();
+    let records = tally.answers;
     let differ = tally.differ;
     println!(rt; "{records} records\n{tally}{differ} differ")
 }

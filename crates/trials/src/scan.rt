@@ -50,7 +50,10 @@ pub struct Tokens<'a> {
 }
 
 impl<'a> Tokens<'a> {
-    pub fn new(bytes: &'a [u8]) -> Tokens<'a> {
+    pub fn new(bytes: &'a [u8]) -> Tokens<'a>
+        ensures rest { result.rest.now ≡ bytes.now }
+        ensures length { result.length ≡ length bytes.now }
+    {
         Tokens {
             rest: bytes,
             length: bytes.len(),

@@ -15,6 +15,7 @@ pub struct Tally {
     accepted: BTreeMap<&'static str, u32>,
     // By the number of the refusal.
     refused: BTreeMap<u8, u32>,
+    pub answers: u32,
     pub differ: u32,
 }
 
@@ -28,28 +29,28 @@ fn count_one<K: Ord + Drop>(counts: &mut BTreeMap<K, u32>, key: K) -> Result<(),
 }
 
 impl Tally {
-    pub fn new(heap: Global) -> Tally {
+    pub fn new(heap: Global) -> Tally
+        ensures answers { result.answers ≡ 0 }
+        ensures differ { result.differ ≡ 0 }
+    {
         Tally {
             accepted: BTreeMap::new(heap),
             refused: BTreeMap::new(heap),
+            answers: 0,
             differ: 0,
         }
     }
 
     // Counts an answer: how it was accepted, in print, or the refusal.
     pub fn count(&mut self, answer: Result<&'static str, Refusal>) -> Result<(), AllocError>
-        ensures { IfErr answer.entry (λ refusal. OnOk result (get nat_cmp self.new.refused refusal.number ≡ Some (min (unwrap_or (get nat_cmp self.old.refused refusal.number) 0 + 1) (2 ^ 32 - 1)))) }
+        ensures all { self.new.answers ≡ min (self.old.answers + 1) (2 ^ 32 - 1) }
+        ensures refusal { IfErr answer.entry (λ refusal. OnOk result (get nat_cmp self.new.refused refusal.number ≡ Some (min (unwrap_or (get nat_cmp self.old.refused refusal.number) 0 + 1) (2 ^ 32 - 1)))) }
     {
+        self.answers = self.answers.saturating_add(1);
         match answer {
             Ok(accepted) => count_one(&mut self.accepted, accepted),
             Err(refusal) => count_one(&mut self.refused, refusal.number),
         }
-    }
-
-    // How many answers there were.
-    pub fn answers(&self) -> u32 {
-        let counts = self.accepted.values().chain(self.refused.values());
-        counts.fold(0u32, |all, count| all.saturating_add(*count))
     }
 
     // Notes a difference, and tells whether it is to be printed: only the first few are.

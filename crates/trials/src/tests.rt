@@ -35,7 +35,7 @@ fn a_tally_counts(rt: HostRuntime) -> Result<(), Fail> {
     tally.count(Ok("accepted"))?;
     tally.count(Err(Reason::NotUtf8.at(7)))?;
     tally.count(Err(Reason::Unclosed.at(9)))?;
-    assert_eq!(rt; tally.answers(), 4);
+    assert_eq!(rt; tally.answers, 4);
     let text = format!(in rt.alloc(); "{tally}")?;
     assert_eq!(rt; text.as_str(), "accepted: 1\nrefused 4: 2\nrefused 13: 1\n");
     Ok(())

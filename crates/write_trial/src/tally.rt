@@ -23,7 +23,7 @@ impl Tally {
 impl fmt::Display for Tally {
     fn fmt<W: fmt::Write>(&self, f: &mut fmt::Formatter<W>) -> fmt::Result {
         let sittings = self.sittings;
-        let calls = self.calls.answers();
+        let calls = self.calls.answers;
         let answers = &self.calls;
         let records = self.records;
         let differ = self.calls.differ;
