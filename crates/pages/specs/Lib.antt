@@ -4,3 +4,4 @@ pub mod Windows
 pub mod Examples
 pub mod Computed
 pub mod Distinct
+pub mod Codes

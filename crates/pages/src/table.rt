@@ -1,21 +1,29 @@
 // Code pages that are given by a table of their characters.
-ghost use Rattle.std.specs.Prelude.{◌≡◌, ℕ, ◌<◌, ◌≤◌, List, Option};
+ghost use Rattle.std.specs.Prelude.{◌≡◌, ℕ, ◌<◌, ◌≤◌, List, Option, map};
 ghost use Rattle.pages.specs.Page.{char_of, byte_of};
 ghost use Rattle.pages.specs.Computed as computed;
 ghost use Rattle.pages.specs.Computed.{Computed};
 ghost use Rattle.pages.specs.Distinct as distinct;
-ghost use Rattle.pages.specs.Distinct.{Stands};
+ghost use Rattle.pages.specs.Codes.{code_of, upper_place};
 
 use crate::page::CodePage;
 
-// The entries of a table by byte: the byte's character, or `None` where it has none.
+// A page's entries by byte as characters, `None` where a byte has none.
 macro_rules! characters {
     ($($entry:tt),* $(,)?) => { [$(characters!(@ $entry)),*] };
     (@ None) => { None };
     (@ $character:literal) => { Some($character) };
 }
 
+// The same entries as codes. The code of no character is a surrogate, which no `char` is, so it is never taken for one.
+macro_rules! codes {
+    ($($entry:tt),* $(,)?) => { [$(codes!(@ $entry)),*] };
+    (@ None) => { 0xD800 };
+    (@ $character:literal) => { $character as u16 };
+}
+
 pub(crate) use characters;
+pub(crate) use codes;
 
 // A page that is given by a table. It then is a code page, by the one impl below.
 pub trait TablePage {
@@ -29,6 +37,10 @@ pub trait TablePage {
 
     fn table() -> &'static [Option<char>; 256]
         ensures { result.now ≡ characters };
+
+    // The codes of the characters by byte, in which a character is sought.
+    fn codes() -> &'static [u16; 256]
+        ensures { result.now ≡ map code_of characters };
 
     // The number fits in 16 bits, and 0 names no page.
     ghost in_range: { (1 ≤ NUMBER) × (NUMBER ≤ 65535) };
@@ -65,14 +77,19 @@ impl<T: TablePage> CodePage for T {
     }
 
     fn encode(&self, character: char) -> Option<u8> {
-        place_of(T::table(), character).map(|place| place as u8)
+        if character.is_ascii() {
+            return Some(character as u8);
+        }
+        upper_place(T::codes(), character).map(|place| (128 + place) as u8)
     }
 }
 
-// A place at which the character stands: since none stands twice it is the first, which the page's meaning names.
-// It is sought from the back, since writing asks for characters beyond ASCII, and these stand there.
-fn place_of(table: &[Option<char>; 256], character: char) -> Option<usize>
-    ensures { Stands table.now character result }
+// The first place at which the character stands from 128 on, counted from there: below it is ASCII, which needs no search.
+// It is sought forward and among codes, since the compiler then compares many at once, which it cannot with an `Option<char>`.
+fn upper_place(codes: &[u16; 256], character: char) -> Option<usize>
+    ensures { result ≡ upper_place codes.now character }
 {
-    table.iter().rposition(|entry| *entry == Some(character))
+    codes[128..]
+        .iter()
+        .position(|code| u32::from(*code) == u32::from(character))
 }
