@@ -1,14 +1,12 @@
 -- The way to the next brace, one token at a time.
-use Rattle.std.proofs.Common.{◌≡◌, ℕ, ◌+◌, ◌-◌, ◌<◌, ◌≤◌, true, false, cond, List, [], ◌∷◌, length, get_or, take, drop, Some, None, Option, sym, refl, ap, ◌∙◌, ⊎_elim, add-zero, one-add, arith}
+use Rattle.std.proofs.Common.{◌≡◌, ℕ, ◌+◌, ◌-◌, ◌<◌, ◌≤◌, true, cond, List, [], ◌∷◌, length, get_or, take, drop, Some, Option, sym, refl, ap, ◌∙◌, ⊎_elim, add-zero, one-add, arith}
 use Rattle.std.specs.List.{prefix_len}
-use Rattle.std.proofs.lemmas.List.{at_drop_more, at_drop_all, drop-drop, get_or-drop, length-drop, take_rest}
+use Rattle.std.proofs.lemmas.List.{at_drop_more, drop-drop, take_rest}
 use Rattle.std.proofs.lemmas.Bool.{cond-false, cond-true, cond_both, cases_Bool}
 use Rattle.std.proofs.lemmas.Bool.Decides.{nat_tests}
-use Rattle.tokens.specs.declared.faults.TokenFault.{TokenFault}
-use Rattle.tokens.specs.Tokens.{Tok, opens, closes, word, hex, symbol, text, Front, layout, fault, token, is_layout, is_passive, control, front, Item, good, bad, next, next_by, items, items_by, from_brace}
+use Rattle.tokens.specs.Tokens.{Tok, opens, closes, word, hex, symbol, text, Front, layout, fault, token, is_layout, is_passive, control, front, Item, good, next, next_by, items, items_by, from_brace}
 use Rattle.tokens.proofs.Fronts.{Control, control_gives}
-use Rattle.tokens.proofs.Steps.{leading_stops}
-use Rattle.tokens.proofs.Items.{items_none, items_bad, items_good}
+use Rattle.tokens.proofs.Items.{items_good}
 
 -- two constructors are never equal: cc then finds that 0 is 1
 never : {A : Type 0} → ◌≡◌ {A = ℕ} 0 1 → A
@@ -52,16 +50,6 @@ past_passive bytes at n e =
     past_run at (drop at bytes) ∙ ap (λ k. from_brace (items 0 (at + k) (drop k (drop at bytes)))) (sym r) ∙ ap (λ l. from_brace (items 0 (at + n) l)) (drop-drop n at bytes)
 
 module _ (bytes : List ℕ) (at : ℕ) (h : at < length bytes) where
-  -- the items from a byte on, by what stands there
-  here : items 0 at (drop at bytes) ≡ items_by at (front (get_or bytes at 0) (drop (at + 1) bytes)) (λ k. items k (at + 1) (drop (at + 1) bytes))
-  here = at_drop_more (items 0 at) bytes at 0 h
-
-  pub brace_opens : get_or bytes at 0 ≡ 123 → good opens at (at + 1) ∷ items 0 (at + 1) (drop (at + 1) bytes) ≡ from_brace (items 0 at (drop at bytes))
-  brace_opens e = sym (ap from_brace here ∙ ap (λ b. from_brace (items_by at (front b (drop (at + 1) bytes)) (λ k. items k (at + 1) (drop (at + 1) bytes)))) e)
-
-  pub brace_closes : get_or bytes at 0 ≡ 125 → good closes at (at + 1) ∷ items 0 (at + 1) (drop (at + 1) bytes) ≡ from_brace (items 0 at (drop at bytes))
-  brace_closes e = sym (ap from_brace here ∙ ap (λ b. from_brace (items_by at (front b (drop (at + 1) bytes)) (λ k. items k (at + 1) (drop (at + 1) bytes)))) e)
-
   -- what a backslash begins is passed over
   pub past_word : get_or bytes at 0 ≡ 92 → (t : Tok) (p e : ℕ) → at ≤ e → Some (good t p e) ≡ next at (drop at bytes) → from_brace (items 0 at (drop at bytes)) ≡ from_brace (items 0 e (drop e bytes))
   past_word s t p e l f =
@@ -69,23 +57,9 @@ module _ (bytes : List ℕ) (at : ℕ) (h : at < length bytes) where
       let found : Some (good t p e) ≡ next_by at (control rest) (next (at + 1) rest) = f ∙ at_drop_more (next at) bytes at 0 h ∙ ap (λ b. next_by at (front b rest) (next (at + 1) rest)) s in
       ap from_brace (items_good bytes at t p e l f) ∙ past_control _ at (control rest) (control_gives rest) _ t p e found (items 0 e (drop e bytes))
 
-  pub word_bad : (f : TokenFault) → Some (bad f) ≡ next at (drop at bytes) → bad f ∷ [] ≡ from_brace (items 0 at (drop at bytes))
-  word_bad f e = sym (ap from_brace (items_bad bytes at f e))
-
-  pub word_none : None ≡ next at (drop at bytes) → [] ≡ from_brace (items 0 at (drop at bytes))
-  word_none e = sym (ap from_brace (items_none bytes at e))
-
--- no brace stands at the end of the bytes
-pub past_end : (bytes : List ℕ) (at : ℕ) → length bytes ≤ at → from_brace (items 0 at (drop at bytes)) ≡ []
-past_end bytes at h = at_drop_all (λ l. from_brace (items 0 at l)) bytes at h
-
-not_passive : (b : ℕ) → is_passive b ≡ false → (b ≡ 123 → ⊥) → (b ≡ 125 → ⊥) → b ≡ 92
-not_passive b e o c = grind (arith, nat_tests)
-
--- where a run of text and layout ends at no brace, a backslash stands
-pub backslash_here : (bytes : List ℕ) (at n : ℕ) → n ≡ prefix_len is_passive (take (length bytes - at) (drop at bytes)) → at + n < length bytes → (get_or bytes (at + n) 0 ≡ 123 → ⊥) → (get_or bytes (at + n) 0 ≡ 125 → ⊥) → get_or bytes (at + n) 0 ≡ 92
-backslash_here bytes at n e h o c =
-    let r : n ≡ prefix_len is_passive (drop at bytes) = e ∙ ap (prefix_len is_passive) (take_rest bytes at) in
-    let stops : is_passive (get_or bytes (at + n) 0) ≡ false =
-    ap is_passive (sym (get_or-drop at bytes n 0)) ∙ ap (λ k. is_passive (get_or (drop at bytes) k 0)) r ∙ leading_stops is_passive (drop at bytes) (omega (arith, length-drop at bytes)) in
-    not_passive _ stops o c
+  -- also where it is found by what comes after the backslash
+  pub past_control_here : get_or bytes at 0 ≡ 92 → (t : Tok) (n : ℕ) → token t n ≡ control (drop (at + 1) bytes) → from_brace (items 0 at (drop at bytes)) ≡ from_brace (items 0 (at + n) (drop (at + n) bytes))
+  past_control_here s t n e =
+      let rest = drop (at + 1) bytes in
+      let back : next at (drop at bytes) ≡ next_by at (control rest) (next (at + 1) rest) = at_drop_more (next at) bytes at 0 h ∙ ap (λ b. next_by at (front b rest) (next (at + 1) rest)) s in
+      past_word s t at (at + n) (omega arith) (ap (λ x. next_by at x (next (at + 1) rest)) e ∙ sym back)

@@ -4,7 +4,7 @@ ghost use Rattle.tokens.specs.Tokens.{items, from_brace};
 ghost use Rattle.tokens.specs.Shown.{brace_items, BraceFits};
 
 use crate::faults::TokenFault;
-use crate::lexer::next_token;
+use crate::lexer::control;
 use crate::scan::{Class, run_length};
 
 // A brace, by its place.
@@ -23,19 +23,15 @@ pub fn next_brace(bytes: &[u8], from: usize) -> Result<Option<Brace>, TokenFault
     // A token's end is known once it is read, so no range counts the place.
     let mut at = from;
     while at < bytes.len() {
-        let place = at + run_length(&bytes[at..], Class::Passive);
-        if place >= bytes.len() {
-            break;
-        }
-        match bytes[place] {
-            b'{' => return Ok(Some(Brace::Open(place))),
-            b'}' => return Ok(Some(Brace::Close(place))),
-            _ => {
-                let Some(found) = next_token(bytes, place)? else {
-                    break;
-                };
-                at = found.end;
-            }
+        match bytes[at] {
+            b'{' => return Ok(Some(Brace::Open(at))),
+            b'}' => return Ok(Some(Brace::Close(at))),
+            // No layout is looked for before a backslash that is at hand.
+            b'\\' => match control(&bytes[at + 1..]) {
+                Ok(found) => at += found.length,
+                Err(flaw) => return Err(TokenFault { flaw, place: at }),
+            },
+            _ => at += run_length(&bytes[at..], Class::Passive),
         }
     }
     Ok(None)

@@ -37,9 +37,9 @@ pub struct Found<'a> {
 
 // A token at the front of some bytes, and how many of them it takes.
 #[derive(Clone, Copy)]
-struct Lexeme<'a> {
-    token: Token<'a>,
-    length: usize,
+pub(crate) struct Lexeme<'a> {
+    pub(crate) token: Token<'a>,
+    pub(crate) length: usize,
 }
 
 // The first token from `at` on, with its place; none where only layout is left.
@@ -82,7 +82,7 @@ fn front<'a>(first: u8, rest: &'a [u8]) -> Result<Lexeme<'a>, Flaw>
 }
 
 // The token that a backslash begins, by the bytes after it.
-fn control<'a>(bytes: &'a [u8]) -> Result<Lexeme<'a>, Flaw>
+pub(crate) fn control<'a>(bytes: &'a [u8]) -> Result<Lexeme<'a>, Flaw>
     ensures value { shown_front result ≡ control_of bytes.now }
     ensures bound { LexemeFits (1 + length bytes.now) result }
 {
