@@ -4,8 +4,8 @@ ghost use Rattle.std.specs.Prelude.{◌≤◌};
 use crate::listed::Listed;
 use pages::CodePage;
 
-// The characters below this are tried: all that the pages have are.
-const LIMIT: char = '\u{3000}';
+// The characters below this are tried: all that the pages have are, and no surrogate is.
+const LIMIT: u32 = 0x3000;
 
 // How many have a partner on the page, and how many have another on the list.
 #[derive(Clone, Copy)]
@@ -14,17 +14,18 @@ pub struct Tally {
     pub differ: usize,
 }
 
-// Each byte, with its character.
+// Each byte, with its character. A loop that counts both, since the page is asked once for each.
 pub fn decode_all<P: CodePage>(page: &P, list: &Listed) -> Tally
     ensures { result.differ ≤ 256 }
 {
     let number = page.number();
-    let have = (0..=u8::MAX)
-        .filter(|byte| page.decode(*byte).is_some())
-        .count();
-    let differ = (0..=u8::MAX)
-        .filter(|byte| list.character(number, *byte) != Some(page.decode(*byte)))
-        .count();
+    let mut have = 0;
+    let mut differ = 0;
+    for byte in 0..=u8::MAX {
+        let decoded = page.decode(byte);
+        have += usize::from(decoded.is_some());
+        differ += usize::from(list.character(number, byte) != Some(decoded));
+    }
     Tally { have, differ }
 }
 
@@ -34,11 +35,15 @@ pub fn encode_all<P: CodePage>(page: &P, list: &Listed) -> Tally
     ensures { result.differ ≤ 0x3000 }
 {
     let number = page.number();
-    let have = ('\0'..LIMIT)
-        .filter(|character| page.encode(*character).is_some())
-        .count();
-    let differ = ('\0'..LIMIT)
-        .filter(|character| list.byte(number, *character) != page.encode(*character))
-        .count();
+    let mut have = 0;
+    let mut differ = 0;
+    for code in 0..LIMIT {
+        let Some(character) = char::from_u32(code) else {
+            continue;
+        };
+        let encoded = page.encode(character);
+        have += usize::from(encoded.is_some());
+        differ += usize::from(list.byte(number, character) != encoded);
+    }
     Tally { have, differ }
 }
