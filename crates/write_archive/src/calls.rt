@@ -14,15 +14,23 @@ impl<'a, P: CodePage + Copy, W: Write> Session<'a, P, W> {
     pub fn serve_lines<S: Sink + Drop>(&mut self, sink: S, calls: &str) -> io::Result<(S, bool)> {
         let mut writer = Writer::new(self.page, sink);
         for line in calls.lines() {
-            let (_, digits) = line.split_once(' ').unwrap_or((line, ""));
-            let piece = parse_digits(self.heap, digits)?;
-            match call_of(line, piece.as_deref()) {
-                Some(call) => self.serve_call(&mut writer, call)?,
-                None => writeln!(self.out, "unknown call")?,
-            }
+            self.serve_line(&mut writer, line)?;
         }
         let open = writer.state().is_some();
         Ok((writer.into_sink(), open))
+    }
+
+    // A call that is a whole line is known before anything is parsed.
+    fn serve_line<S: Sink>(&mut self, writer: &mut Writer<P, S>, line: &str) -> io::Result<()> {
+        if let Some(call) = bare_call(line) {
+            return self.serve_call(writer, call);
+        }
+        let (name, digits) = line.split_once(' ').unwrap_or((line, ""));
+        let piece = parse_digits(self.heap, digits)?;
+        match call_of(name, piece.as_deref()) {
+            Some(call) => self.serve_call(writer, call),
+            None => writeln!(self.out, "unknown call"),
+        }
     }
 
     fn serve_call<S: Sink>(&mut self, writer: &mut Writer<P, S>, call: Call<'_>) -> io::Result<()> {
@@ -33,16 +41,20 @@ impl<'a, P: CodePage + Copy, W: Write> Session<'a, P, W> {
     }
 }
 
-// The call of a line, or none where the line is no call. `piece` is what follows the first space, if those are digits.
-fn call_of<'a>(line: &str, piece: Option<&'a [u8]>) -> Option<Call<'a>> {
+// The call that has no piece and is a whole line, if the line is one.
+fn bare_call(line: &str) -> Option<Call<'static>> {
     match line {
-        "open html" => return Some(Call::Open(Kind::Html)),
-        "open text" => return Some(Call::Open(Kind::Text)),
-        "finish" => return Some(Call::Finish),
-        _ => {}
+        "open html" => Some(Call::Open(Kind::Html)),
+        "open text" => Some(Call::Open(Kind::Text)),
+        "finish" => Some(Call::Finish),
+        _ => None,
     }
+}
+
+// The call of a name, or none where that names no call. `piece` is what follows the name, if those are digits.
+fn call_of<'a>(name: &str, piece: Option<&'a [u8]>) -> Option<Call<'a>> {
     let piece = piece?;
-    match line.split(' ').next()? {
+    match name {
         "markup" => Some(Call::Markup(piece)),
         "text" => Some(Call::Text(piece)),
         "dress" => Some(Call::Dress(piece)),

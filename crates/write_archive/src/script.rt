@@ -1,6 +1,6 @@
 // The archive, and what its records give back when they are read.
 use crate::session::Session;
-use hex::encode;
+use hex::encode_to_slice;
 use layers::Fault;
 use pages::CodePage;
 use reader::read;
@@ -11,10 +11,15 @@ use std::io::Write;
 // Room for the content of any record: three bytes for each that reading takes.
 const ROOM: usize = 98_304;
 
+// How many bytes are turned into digits at a time.
+const CHUNK: usize = 64;
+
 impl<'a, P: CodePage, W: Write> Session<'a, P, W> {
     // Prints the archive as it is held, and its records. A record that is open is closed for that by one brace.
     pub fn print_script(&mut self, archive: &[u8], open: bool) -> io::Result<()> {
-        writeln!(self.out, "archive {}", encode(self.heap, archive)?)?;
+        write!(self.out, "archive ")?;
+        self.print_digits(archive)?;
+        writeln!(self.out, "")?;
         let mut closed = archive.to_vec(self.heap)?;
         if open {
             closed.push(b'}')?;
@@ -54,11 +59,23 @@ impl<'a, P: CodePage, W: Write> Session<'a, P, W> {
             Ok(reading) => {
                 let kind = reading.kind;
                 let content = content.get(..reading.length).unwrap_or(&[]);
-                let content = encode(self.heap, content)?;
-                writeln!(self.out, "record {number} {kind} {end} content {content}")
+                write!(self.out, "record {number} {kind} {end} content ")?;
+                self.print_digits(content)?;
+                writeln!(self.out, "")
             }
             Err(fault) => self.print_refusal(&fault),
         }
+    }
+
+    // Prints each byte by two digits. It goes by chunks, so that no memory is asked for where an archive is long.
+    fn print_digits(&mut self, bytes: &[u8]) -> io::Result<()> {
+        let mut room = [0u8; 2 * CHUNK];
+        for chunk in bytes.chunks(CHUNK) {
+            let digits = &mut room[..2 * chunk.len()];
+            encode_to_slice(chunk, digits).unwrap();
+            self.out.write_all(digits)?;
+        }
+        Ok(())
     }
 
     // Prints how a call or a reading was refused.
