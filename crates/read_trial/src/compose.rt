@@ -207,10 +207,12 @@ impl Composer<'_> {
     }
 }
 
-// A unit may be written with a sign or without.
+// A unit may be written with a sign or without. By ranges and a sum, apart from the library, which converts the number by
+// calls that would be compared with themselves.
 fn unit_of(number: i32) -> Option<u16> {
-    match u16::try_from(number) {
-        Ok(unit) => Some(unit),
-        Err(_) => i16::try_from(number).ok().map(|unit| unit.cast_unsigned()),
+    match number {
+        0..=65_535 => Some(number as u16),
+        -32_768..=-1 => Some((number + 65_536) as u16),
+        _ => None,
     }
 }

@@ -59,7 +59,7 @@ impl Reason {
 }
 
 // Why a second implementation stops: a refusal, or no memory.
-#[derive(Debug, Drop, Error)]
+#[derive(Clone, Copy, Debug, Error)]
 pub enum Stop {
     #[error("{0}")]
     Refused(#[from] Refusal),

@@ -1,5 +1,5 @@
 // The tokens of given bytes, for the second implementations of both trials. Nothing of the library's own lexer is used.
-ghost use Rattle.std.specs.Prelude.{◌≡◌, ℤ, length, Option, IfSome};
+ghost use Rattle.std.specs.Prelude.{◌≡◌, ◌<◌, ℤ, length, Option, IfSome};
 ghost use Rattle.std.specs.Iterator.{at_most};
 
 use std::str::from_utf8;
@@ -107,9 +107,19 @@ fn control<'a>(bytes: &'a [u8]) -> Result<(Token<'a>, usize), Option<&'a str>> {
 }
 
 fn hex(high: u8, low: u8) -> Option<u8> {
-    let high = char::from(high).to_digit(16)?;
-    let low = char::from(low).to_digit(16)?;
-    u8::try_from(16 * high + low).ok()
+    Some(16 * hex_value(high)? + hex_value(low)?)
+}
+
+// By ranges, apart from the library's lexer, which calls `to_digit`: that would be compared with itself.
+fn hex_value(digit: u8) -> Option<u8>
+    ensures { IfSome result (λ value. value < 16) }
+{
+    match digit {
+        b'0'..=b'9' => Some(digit - b'0'),
+        b'a'..=b'f' => Some(digit - b'a' + 10),
+        b'A'..=b'F' => Some(digit - b'A' + 10),
+        _ => None,
+    }
 }
 
 // A word with its number, the space after it and the data of `\bin`; its name where it is faulty.

@@ -112,14 +112,16 @@ impl<'a, R: Print + AllocGlobal, P: CodePage + Copy> Trial<'a, R, P> {
     pub fn try_plan(&mut self, plan: Plan) -> io::Result<()> {
         let heap = self.rt.alloc();
         let mut room = vec![in heap; 0xAAu8; plan.space]?;
-        let (buffer, second) = self.sit(BufferSink::new(&mut room), plan)?;
+        let (buffer, second) = self.sit(BufferSink::new(&mut room), plan.space, plan)?;
         self.compare(buffer.into_written(), second)?;
         let used = Card {
             count: 200,
             data: [7; CARD_SIZE],
         };
-        let mut cards = vec![in heap; used; cards_for(plan.space)]?;
-        let (pile, second) = self.sit(CardSink::new(&mut cards), plan)?;
+        let count = cards_for(plan.space);
+        let mut cards = vec![in heap; used; count]?;
+        let space = count.saturating_mul(CARD_SIZE);
+        let (pile, second) = self.sit(CardSink::new(&mut cards), space, plan)?;
         let mut written = vec![in heap; 0u8; pile.count()]?;
         if pile.unload(&mut written).is_err() && self.tally.calls.note_difference() {
             println!(self.rt; "the cards could not be unloaded")?;
@@ -127,10 +129,15 @@ impl<'a, R: Print + AllocGlobal, P: CodePage + Copy> Trial<'a, R, P> {
         self.compare(&written, second)
     }
 
-    // Serves each call in both ways.
-    fn sit<S: Sink + Drop>(&mut self, sink: S, plan: Plan) -> io::Result<(S, Second<'a>)> {
+    // Serves each call in both ways. The space is told apart from the sink, whose own word for it is on trial too.
+    fn sit<S: Sink + Drop>(
+        &mut self,
+        sink: S,
+        space: usize,
+        plan: Plan,
+    ) -> io::Result<(S, Second<'a>)> {
         let heap = self.rt.alloc();
-        let mut second = Second::new(heap, self.spread, sink.space());
+        let mut second = Second::new(heap, self.spread, space);
         let mut writer = Writer::new(self.page, sink);
         for _ in 0..plan.calls {
             let call = next_call(heap, self.dice, second.outlook(plan.long))?;

@@ -29,12 +29,29 @@ fn push_character(spelled: &mut String, character: char, page: &Page) -> Result<
     }
 }
 
-// One unit or two halves, each as a number with a sign.
+// One unit, or two halves: the upper ten bits, less the 64 that are always there, and the lower ten. By arithmetic, apart from
+// the library, which calls `encode_utf16` and `cast_signed`: they would be compared with themselves.
 fn push_units(spelled: &mut String, character: char) -> Result<(), AllocError> {
-    let mut room = [0; 2];
-    for unit in character.encode_utf16(&mut room) {
-        let number = unit.cast_signed();
-        write!(spelled, "\\u{number}?")?;
+    let code = u32::from(character);
+    match u16::try_from(code) {
+        Ok(unit) => push_unit(spelled, unit),
+        Err(_) => {
+            push_unit(spelled, half(0xD800, (code >> 10).saturating_sub(64)))?;
+            push_unit(spelled, half(0xDC00, code))
+        }
     }
-    Ok(())
+}
+
+// A mark, and the lower ten bits.
+fn half(mark: u16, bits: u32) -> u16 {
+    mark | (bits & 0x3FF) as u16
+}
+
+// A unit as a number with a sign.
+fn push_unit(spelled: &mut String, unit: u16) -> Result<(), AllocError> {
+    let number = match unit {
+        0..=0x7FFF => i32::from(unit),
+        _ => i32::from(unit) - 0x10000,
+    };
+    write!(spelled, "\\u{number}?")
 }
