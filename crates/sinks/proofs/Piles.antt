@@ -1,6 +1,7 @@
 -- What a pile that is filled in turn holds, has space for and keeps in order, one card or one byte on.
-use Rattle.std.proofs.Common.{◌≡◌, ℕ, zero, suc, ◌+◌, ◌-◌, ◌*◌, ◌<◌, ◌≤◌, List, [], ◌∷◌, ◌++◌, length, get_or, take, drop, set, replicate, sym, refl, ap, ◌∙◌, append_assoc, append-nil, take_all, add-one, arith, length-append, length-set}
+use Rattle.std.proofs.Common.{◌≡◌, ℕ, zero, suc, ◌+◌, ◌-◌, ◌*◌, ◌<◌, ◌≤◌, List, [], ◌∷◌, ◌++◌, length, get_or, take, drop, set, replicate, sym, refl, ap, ◌∙◌, append_assoc, append-nil, take_all, add-one, ⊎_elim, arith, length-append, length-set}
 use lib.ListN.{length-replicate}
+use Rattle.std.proofs.Math.Nat.{eq-or-lt_of_le}
 use Rattle.std.proofs.lemmas.Grind.{common_steps}
 use Rattle.std.proofs.lemmas.List.{drop-drop, drop-replicate, flat_map_more, get_or-set_same, take_more}
 use Rattle.std.proofs.lemmas.List.Folds.{length-flat_map-take}
@@ -169,6 +170,12 @@ place_last (suc at) (c ∷ cs) h l =
     let there = place_last at cs h (omega arith) in
     (omega (arith, there.0), there.1)
 
+-- Where the card that is being filled has no place left and another follows, it is full.
+
+pub full_here : (at : ℕ) (cs : List Card) → at + 1 < length cs → Filled at cs → (HasPlace at cs → ⊥) → (get_or cs at none).count ≡ 127
+full_here at cs h f lacks =
+    ⊎_elim (λ e. e) (λ l. absurd (lacks (place_here at cs (omega (arith, room_is at cs (omega arith))) l))) (eq-or-lt_of_le (filled_count at cs f))
+
 -- A pile of blank cards.
 
 pub filled_blank : (n : ℕ) → Filled 0 (replicate n blank)
@@ -180,4 +187,4 @@ whole_blank zero = refl
 whole_blank (suc n) = omega (arith, length-replicate n blank)
 
 -- What the proofs of the card sink cite.
-pub ruleset pile = (common_steps, filled_within, filled_count, begun_count, copied_card, copied_length, room_is, dealt_add, room_add, dealt_advance, room_advance, filled_advance, place_advance, place_here, place_last, filled_blank, whole_blank)
+pub ruleset pile = (common_steps, filled_within, filled_count, begun_count, copied_card, copied_length, room_is, dealt_add, room_add, dealt_advance, room_advance, filled_advance, place_advance, place_here, place_last, full_here, filled_blank, whole_blank)

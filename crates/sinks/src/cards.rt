@@ -1,5 +1,5 @@
 // A sink that fills a pile of cards, one after the other.
-ghost use Rattle.std.specs.Prelude.{◌≡◌, ℕ, ◌+◌, ◌*◌, ◌<◌, ◌≤◌, [], ◌∷◌, ◌++◌, length, take, drop, replicate, suc};
+ghost use Rattle.std.specs.Prelude.{◌≡◌, ℕ, ◌+◌, ◌*◌, ◌<◌, ◌≤◌, ◌↔◌, IsTrue, [], ◌∷◌, ◌++◌, length, take, drop, replicate, suc};
 ghost use Rattle.sinks.specs.Cards.{front, dealt, room_in, blank, Filled, Filled-prop, HasPlace};
 
 use crate::faults::SinkFault;
@@ -112,9 +112,16 @@ impl<'a> CardSink<'a> {
         ensures space { room self.new ≡ room self.old }
         ensures place { 0 < room self.new → HasPlace self.new.at self.new.cards.now }
     {
-        if self.at + 1 < self.cards.len() && usize::from(self.cards[self.at].count) == CARD_SIZE {
+        if !self.has_place() && self.at + 1 < self.cards.len() {
             self.at += 1;
         }
+    }
+
+    // Whether the card that is being filled has a place left. It is asked at each byte, so it works out no more.
+    fn has_place(&self) -> bool
+        ensures { IsTrue result ↔ HasPlace self.now.at self.now.cards.now }
+    {
+        self.at < self.cards.len() && usize::from(self.cards[self.at].count) < CARD_SIZE
     }
 }
 
@@ -136,7 +143,7 @@ impl<'a> Sink for CardSink<'a> {
         ensures len { length self.new.cards.now ≡ length self.old.cards.now }
     {
         self.advance();
-        if self.space() == 0 {
+        if !self.has_place() {
             return Err(Full);
         }
         // The proof follows the loan of a card out of a slice in a variable, and not out of one in a field.
