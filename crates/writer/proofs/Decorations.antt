@@ -1,9 +1,9 @@
 -- The checks of decoration, one byte, one word and one token after the other.
-use Rattle.std.proofs.Common.{◌≡◌, ℕ, suc, ◌+◌, ◌<◌, ◌≤◌, Bool, true, false, not, cond, ltb, ◌||◌, List, [], ◌∷◌, length, Some, None, Ok, Err, Option, Result, sym, refl, ap, ◌∙◌, ⊎_elim, add-zero, zero-add, arith}
-use Rattle.std.specs.List.{position, list_any}
+use Rattle.std.proofs.Common.{◌≡◌, ℕ, suc, ◌+◌, ◌<◌, ◌≤◌, Bool, true, false, not, cond, ltb, ◌||◌, List, [], ◌∷◌, map, length, get_or, drop, Some, None, Ok, Err, Option, Result, sym, refl, ap, ◌∙◌, add-zero, zero-add, arith, Bor}
+use Rattle.std.specs.List.{position}
 use Rattle.std.specs.Str.{bytes_eq}
-use Rattle.std.proofs.lemmas.Slice.Eq.{bytes_eq-Decides}
-use Rattle.std.proofs.lemmas.Bool.{cond-true, cond-false, cond_both, cases_Bool, lt-ltb, le-ltb, ltb-true, ltb-false, false≢true}
+use Rattle.std.proofs.lemmas.List.{at_drop_more}
+use Rattle.std.proofs.lemmas.Bool.{cond-true, cond-false, cond_both, lt-ltb, le-ltb, ltb-true, ltb-false}
 use Rattle.tokens.specs.Tokens.{items}
 use Rattle.writer.specs.declared.faults.WriterFault.{WriterFault}
 use Rattle.writer.specs.declared.faults.WriterFault.TheVariants.{NotPrintable}
@@ -36,13 +36,10 @@ module _ (bs : List ℕ) where
   pub unprintable_none : None ≡ position (λ b. not (is_printable b)) bs → decoration bs ≡ sound bs [] (items 0 0 bs)
   unprintable_none e = ap (decoration_by bs) (printable_from 0 bs ∙ ap (unless_found 0) (sym e))
 
--- A name among words, as `contains` finds it.
-flipped : (xs ys : List ℕ) → bytes_eq xs ys ≡ bytes_eq ys xs
-flipped xs ys =
-    let one = bytes_eq-Decides xs ys in
-    let two = bytes_eq-Decides ys xs in
-    ⊎_elim (λ p. p ∙ sym (two.1 (sym (one.0 p)))) (λ p. ⊎_elim (λ q. absurd (false≢true (sym p ∙ one.1 (sym (two.0 q))))) (λ q. p ∙ sym q) (cases_Bool (bytes_eq ys xs))) (cases_Bool (bytes_eq xs ys))
+-- A name among words, one word after the other.
+module _ (name : List ℕ) (words : List (Bor (List ℕ))) (i : ℕ) (d : Bor (List ℕ)) (h : i < length words) where
+  pub among_here : bytes_eq name (get_or words i d).now ≡ true → among name (map (λ w. w.now) (drop i words)) ≡ true
+  among_here e = at_drop_more (λ ws. among name (map (λ w. w.now) ws)) words i d h ∙ ap (λ b. b || among name (map (λ w. w.now) (drop (i + 1) words))) e
 
-pub among_any : (name : List ℕ) (ws : List (List ℕ)) → list_any (λ w. bytes_eq w name) ws ≡ among name ws
-among_any name [] = refl
-among_any name (w ∷ ws) = ap (λ b. b || list_any (λ w. bytes_eq w name) ws) (flipped w name) ∙ ap (λ b. bytes_eq name w || b) (among_any name ws)
+  pub among_on : bytes_eq name (get_or words i d).now ≡ false → among name (map (λ w. w.now) (drop i words)) ≡ among name (map (λ w. w.now) (drop (i + 1) words))
+  among_on e = at_drop_more (λ ws. among name (map (λ w. w.now) ws)) words i d h ∙ ap (λ b. b || among name (map (λ w. w.now) (drop (i + 1) words))) e

@@ -1,5 +1,5 @@
 // The check of decoration: what stands in a record and is no part of its content.
-ghost use Rattle.std.specs.Prelude.{◌≡◌, [], not, length, Err};
+ghost use Rattle.std.specs.Prelude.{◌≡◌, [], map, not, length, Err};
 ghost use Rattle.std.specs.List.{position};
 ghost use Rattle.tokens.specs.Tokens.{items};
 ghost use Rattle.tokens.specs.Shown.{shown};
@@ -41,11 +41,23 @@ fn unprintable(bytes: &[u8]) -> Option<usize>
     bytes.iter().position(|byte| !matches!(byte, 0x20..=0x7E))
 }
 
+// Not `words.contains(&name)`: that compares a name with four words before it looks at an answer, which takes longer.
+fn is_among(name: &[u8], words: &[&[u8]]) -> bool
+    ensures { result ≡ among name.now (map (λ w. w.now) words.now) }
+{
+    for word in words {
+        if name == *word {
+            return true;
+        }
+    }
+    false
+}
+
 // Whether decoration may not have this word.
 fn is_marker(name: &[u8]) -> bool
     ensures { result ≡ among name.now markers }
 {
-    MARKERS.contains(&name)
+    is_among(name, &MARKERS)
 }
 
 // A word that is both a marker and faulty counts as a marker.
